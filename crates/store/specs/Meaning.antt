@@ -5,7 +5,8 @@
 --     Sound m                  every sentence on how the three hang together
 --     top ss                   the available amount of the whole store, which is that of the top stage
 --     shown n, height-of ss    a height as it is shown;  the height of the whole store
---     lowered q ss             every available amount less q
+--     with-stage s m           m with the stage s on top, as a layer adds it
+--     lower q s, lowered q ss  the available amount less q, of one stage and of every stage
 --     fault-from n q ss        the fault of a draw of q, over stages counted from the height n
 --     Same-make m n            capacity and kinds are the same
 --     Charged q m r n          n is m after a charge of q that answered r
@@ -14,7 +15,7 @@
 --     Ticked m r n             n is m after a tick that answered r
 use mathlib.Core.Path.{_≡_}
 use mathlib.Core.Bool.{Bool, cond, _&&_, _||_}
-use mathlib.Core.List.{List, [], _∷_}
+use mathlib.Core.List.{List, [], _∷_, _++_}
 use Prim.Native.Nat.{ℕ, _+_, _-_, _≤_, _<_, min}
 use lib.Dec.{leb, ltb, T}
 use lib.ListN.{length}
@@ -60,6 +61,9 @@ top [] = 0
 top (s ∷ []) = s .available
 top (s ∷ t ∷ ss) = top (t ∷ ss)
 
+abbrev pub with-stage : Stage → Meaning → Meaning
+with-stage s m = record { held = m .held; capacity = m .capacity; stages = m .stages ++ s ∷ [] }
+
 -- a height above 255 is always shown as 255
 abbrev pub shown : ℕ → ℕ
 shown n = min n 255
@@ -67,9 +71,12 @@ shown n = min n 255
 abbrev pub height-of : List Stage → ℕ
 height-of ss = shown (length ss - 1)
 
+abbrev pub lower : ℕ → Stage → Stage
+lower q s = record { kind = s .kind; available = s .available - q }
+
 abbrev pub lowered : ℕ → List Stage → List Stage
 lowered q [] = []
-lowered q (s ∷ ss) = record { kind = s .kind; available = s .available - q } ∷ lowered q ss
+lowered q (s ∷ ss) = lower q s ∷ lowered q ss
 
 -- the lowest stage whose available amount is below q: its height, its kind, and q less that amount
 abbrev pub fault-from : ℕ → ℕ → List Stage → Fault
