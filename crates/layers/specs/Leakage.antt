@@ -1,5 +1,5 @@
 -- Leakage over any store, whose members are G. Assumes nothing.
---     New-leakage s p r        what is made over the store s with the part p: a leakage, where p is at most 10,000;
+--     new-leakage s p          what is made over the store s with the part p: a leakage, where p is at most 10,000;
 --                              otherwise a refusal, which hands s back
 --     leak-of held p r         what leaks at a tick: t div 10,000, where t is held × p + r
 --     kept held p r            the remainder after it: t mod 10,000
@@ -9,7 +9,9 @@
 --     Leaked G l r m           m is l after a tick that answered r
 --     Same-leak l m            part and remainder are the same
 use mathlib.Core.Path.{_≡_}
+use mathlib.Core.Bool.{cond}
 use Prim.Native.Nat.{ℕ, _+_, _*_, _/_, _%_, _≤_, _<_}
+use lib.Dec.{leb}
 use Rattle.std.specs.declared.result.Result.{Result}
 use Rattle.std.specs.declared.result.Result.the-variants.{Ok, Err}
 use Rattle.rates.specs.Amount.{whole}
@@ -18,9 +20,8 @@ use Rattle.store.specs.declared.store.Store.{Ghosts}
 use Rattle.store.specs.Meaning.{Stage, Meaning, meaning, with-stage, top, Drained, Ticked}
 use Rattle.layers.specs.declared.leakage.Leakage.{Leakage}
 
-abbrev pub New-leakage : {S : Type 0} → S → ℕ → Result (Leakage S) (OutOfRange × S) → Type 0
-New-leakage s p (Ok l) = (p ≤ whole) × (l ≡ record { below = s; part = p; remainder = 0 })
-New-leakage s p (Err e) = (whole < p) × (e .1 ≡ s)
+abbrev pub new-leakage : {S : Type 0} → S → ℕ → Result (Leakage S) (OutOfRange × S)
+new-leakage s p = cond (leb p whole) (Ok (record { below = s; part = p; remainder = 0 })) (Err (record {}, s))
 
 abbrev pub leak-of : ℕ → ℕ → ℕ → ℕ
 leak-of held p r = (held * p + r) / whole

@@ -3,7 +3,7 @@ ghost use mathlib.Core.Path.{_≡_};
 ghost use Prim.Native.Nat.{min};
 ghost use Rattle.std.specs.Vec.{refused};
 ghost use Rattle.store.specs.Meaning.{Charged, Drawn, Drained, Ticked};
-ghost use Rattle.layers.specs.Leakage.{New-leakage, leak-of, kept, leakage-means, Leakage-sound, Leaked, Same-leak};
+ghost use Rattle.layers.specs.Leakage.{new-leakage, leak-of, kept, leakage-means, Leakage-sound, Leaked, Same-leak};
 use rates::OutOfRange;
 use rates::PARTS;
 use store::Fault;
@@ -20,7 +20,7 @@ pub struct Leakage<S> {
 impl<S> Leakage<S> {
     // A leakage that has kept nothing yet; a refusal hands the store back.
     pub fn new(below: S, part: u16) -> Result<Leakage<S>, (OutOfRange, S)>
-        ensures result { λ r. ⌜ New-leakage below part r ⌝ }
+        ensures result { λ r. ⌜ r ≡ new-leakage below part ⌝ }
     {
         if part > PARTS {
             return Err((OutOfRange, below));

@@ -5,10 +5,12 @@ use Prim.Native.Nat.{ℕ, zero, suc, _+_, _-_, _≤_, _<_, min}
 use native.Mathlib.Omega.{arith}
 use lib.ListN.{length, getD, set, take, drop, replicate, length-append, length-replicate}
 use lib.Seq.{set-at}
+use borrow.Author.Tests.{le-leb}
+use Rattle.std.specs.declared.result.Result.the-variants.{Ok}
 use Rattle.std.specs.shelf.Lists.{sum}
 use Rattle.std.proofs.shelf.Lists.{take-more, take-more-set, drop-more, drop-set-lt, getD-append-left, getD-take, length-take-le}
 use Rattle.std.proofs.shelf.Sums.{sumBy-cons, sumBy-append}
-use Rattle.store.specs.Bank.{Within, filled, emptied, with-none}
+use Rattle.store.specs.Bank.{Within, filled, emptied, with-none, new-bank}
 
 sum-cons : (x : ℕ) (xs : List ℕ) → sum (x ∷ xs) ≡ x + sum xs
 sum-cons x xs = sumBy-cons (λ y. y) x xs
@@ -57,6 +59,9 @@ with-none-length cs few = omega (arith, length-append cs (replicate (8 - length 
 
 pub with-none-within : (cs : List ℕ) → length cs ≤ 8 → Within (with-none cs) (replicate 8 0)
 with-none-within cs few = subst (λ n. Within (with-none cs) (replicate n 0)) (with-none-length cs few) (empty-within (with-none cs))
+
+pub bank-made : (cs : List ℕ) → 1 ≤ length cs → length cs ≤ 8 → sum cs ≤ 1000000000 → new-bank cs ≡ Ok (record { count = length cs; capacities = with-none cs; held = replicate 8 0 })
+bank-made cs some few within = rw (le-leb 1 (length cs) some, le-leb (length cs) 8 few, le-leb (sum cs) 1000000000 within)
 
 -- the capacity at place i comes in the place of a 0
 pub with-none-more : (cs : List ℕ) (i : ℕ) → i < length cs → length cs ≤ 8 → set (take i cs ++ replicate (8 - i) 0) i (getD cs i 0) ≡ take (i + 1) cs ++ replicate (8 - (i + 1)) 0

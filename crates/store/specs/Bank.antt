@@ -1,24 +1,28 @@
 -- Banks of cells, by two lists: what each cell can hold, and what it holds. Assumes nothing.
---     Fits cs              there is a bank of these capacities: 1 to 8 of them, at most G together
+--     fits cs              there is a bank of these capacities: 1 to 8 of them, at most G together
 --     Within cs hs         for each capacity what a cell holds, and no more than that
 --     filled q cs hs       what the cells hold after q more: cell 0 is filled first, then cell 1, and so on
 --     emptied q hs         what the cells hold after q less: the last cell is emptied first
 --     bank-means b         a bank's meaning: one stage, of kind F, with all that the cells hold
 --     Bank-sound b         its cells are within their capacities, which are at most G together
 --     with-none cs         the capacities cs, and 0 in what is left of the eight places
---     New-bank cs b        b is an empty bank of cells with the capacities cs
+--     new-bank cs          what is made of the capacities cs: an empty bank, where they fit
 --     with-held hs b       the bank b with its cells holding hs
-use mathlib.Core.Path.{_≡_}
+use mathlib.Core.Bool.{Bool, cond, _&&_}
 use mathlib.Core.List.{List, [], _∷_, _++_}
 use Prim.Native.Nat.{ℕ, _+_, _-_, _≤_, min}
+use lib.Dec.{leb}
 use lib.ListN.{length, replicate}
+use Rattle.std.specs.declared.result.Result.{Result}
+use Rattle.std.specs.declared.result.Result.the-variants.{Ok, Err}
 use Rattle.std.specs.shelf.Lists.{sum}
 use Rattle.rates.specs.Amount.{bound}
+use Rattle.rates.specs.declared.amount.OutOfRange.{OutOfRange}
 use Rattle.store.specs.declared.bank.Bank.{Bank}
 use Rattle.store.specs.Meaning.{Meaning}
 
-abbrev pub Fits : List ℕ → Type 0
-Fits cs = (1 ≤ length cs) × (length cs ≤ 8) × (sum cs ≤ bound)
+abbrev pub fits : List ℕ → Bool
+fits cs = leb 1 (length cs) && leb (length cs) 8 && leb (sum cs) bound
 
 abbrev pub Within : List ℕ → List ℕ → Type 0
 Within [] [] = Unit {0}
@@ -51,11 +55,9 @@ Bank-sound b = Within (b .capacities) (b .held) × (sum (b .capacities) ≤ boun
 abbrev pub with-none : List ℕ → List ℕ
 with-none cs = cs ++ replicate (8 - length cs) 0
 
-pub record New-bank (cs : List ℕ) (b : Bank) : Type 0 where
-  pub fits : Fits cs
-  pub count : b .count ≡ length cs
-  pub capacities : b .capacities ≡ with-none cs
-  pub held : b .held ≡ replicate 8 0
+abbrev pub new-bank : List ℕ → Result Bank OutOfRange
+new-bank cs =
+    cond (fits cs) (Ok (record { count = length cs; capacities = with-none cs; held = replicate 8 0 })) (Err (record {}))
 
 abbrev pub with-held : List ℕ → Bank → Bank
 with-held hs b = record { count = b .count; capacities = b .capacities; held = hs }

@@ -2,11 +2,10 @@
 ghost use mathlib.Core.Path.{_≡_};
 ghost use Prim.Native.Nat.{_-_, _^_, _≤_, min};
 ghost use lib.ListN.{length, take};
-ghost use Rattle.std.specs.Results.{Cases};
 ghost use Rattle.std.specs.Vec.{made, refused};
 ghost use Rattle.std.specs.shelf.Lists.{sum};
 ghost use Rattle.store.specs.Meaning.{Charged, Drawn, Drained, Ticked};
-ghost use Rattle.store.specs.Bank.{Fits, with-none, New-bank, filled, emptied, with-held, bank-means, Bank-sound};
+ghost use Rattle.store.specs.Bank.{with-none, new-bank, filled, emptied, with-held, bank-means, Bank-sound};
 use crate::fault::Fault;
 use crate::store::Store;
 use rates::G;
@@ -48,7 +47,7 @@ fn padded(capacities: &[u32]) -> [u32; MOST_CELLS]
 impl Bank {
     // An empty bank of cells with these capacities.
     pub fn new(capacities: &[u32]) -> Result<Bank, OutOfRange>
-        ensures result { λ r. ⌜ Cases r (New-bank (now (capacities .entry))) (λ _. (Fits (now (capacities .entry)) → ⊥)) ⌝ }
+        ensures result { λ r. ⌜ r ≡ new-bank (now (capacities .entry)) ⌝ }
         ensures sound { λ r. ⌜ made r Bank-sound ⌝ }
     {
         let count = capacities.len();

@@ -18,6 +18,7 @@ impl Capacitor {
     // An empty capacitor.
     pub fn new(capacity: u32) -> Result<Capacitor, OutOfRange>
         ensures result { λ r. ⌜ r ≡ new-capacitor capacity ⌝ }
+        ensures sound { λ r. ⌜ made r Capacitor-sound ⌝ }
     {
         if capacity > G {
             return Err(OutOfRange);
