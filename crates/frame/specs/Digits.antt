@@ -1,16 +1,18 @@
 -- Hexadecimal digits, upper case, two for each byte, both ways. Assumes nothing.
 --     value-of b            the value of the digit b
+--     joined h l bs         the byte of the digits whose values are h and l, in front of the bytes bs
 --     bytes-of ds           the bytes that the digits ds stand for
 --     line-of ds            the same, where ds are 2 to 80 digits
 --     digit-of n            the digit of the value n
 --     digits-of bs          the digits of the bytes bs
+--     with-byte i b out     the array out with the digits of the byte b at the places i and i + 1
 --     written bs            the line of bs: its digits and a line feed
 --     over-front ws out     the array out with ws written over its front
 use mathlib.Core.Bool.{cond}
 use mathlib.Core.List.{List, [], _∷_, _++_}
 use Prim.Native.Nat.{ℕ, _+_, _-_, _*_, _/_, _%_}
 use lib.Dec.{eqb, leb, ltb}
-use lib.ListN.{length, drop}
+use lib.ListN.{length, drop, set}
 use Rattle.std.specs.declared.result.Result.{Result}
 use Rattle.std.specs.declared.result.Result.the-variants.{Ok, Err}
 use Rattle.frame.specs.declared.fault.FrameFault.{FrameFault}
@@ -23,7 +25,6 @@ value-of b =
     (cond (leb b 57) (Ok (b - 48)) (cond (leb 65 b) (cond (leb b 70) (Ok (b - 55)) (Err BadLine)) (Err BadLine)))
     (Err BadLine)
 
--- the byte of two digits, in front of the bytes of the others
 abbrev pub joined : Result ℕ FrameFault → Result ℕ FrameFault → Result (List ℕ) FrameFault → Result (List ℕ) FrameFault
 joined (Err e) l bs = Err e
 joined (Ok h) (Err e) bs = Err e
@@ -44,6 +45,9 @@ digit-of n = cond (ltb n 10) (48 + n) (55 + n)
 abbrev pub digits-of : List ℕ → List ℕ
 digits-of [] = []
 digits-of (b ∷ bs) = digit-of (b / 16) ∷ digit-of (b % 16) ∷ digits-of bs
+
+abbrev pub with-byte : ℕ → ℕ → List ℕ → List ℕ
+with-byte i b out = set (set out i (digit-of (b / 16))) (i + 1) (digit-of (b % 16))
 
 abbrev pub written : List ℕ → List ℕ
 written bs = digits-of bs ++ 10 ∷ []

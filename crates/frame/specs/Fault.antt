@@ -4,7 +4,6 @@
 use mathlib.Core.List.{List, []}
 use Prim.Native.Nat.{ℕ}
 use Rattle.node.specs.Denial.{number-of as denial-number, values-of as denial-values}
-use Rattle.node.specs.declared.denial.Denial.{Denial}
 use Rattle.frame.specs.declared.fault.FrameFault.{FrameFault}
 use Rattle.frame.specs.declared.fault.FrameFault.the-variants.{ShortAnswer, BadLine, UnknownFrame, OutOfTurn, Denied}
 

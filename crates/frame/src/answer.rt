@@ -18,6 +18,7 @@ pub enum Answer {
     Done,
     // An accepted tick.
     Ticked { loss: u32, intake: u32 },
+    // Refused, with the reason.
     Refused(FrameFault),
 }
 
@@ -25,8 +26,7 @@ pub enum Answer {
 fn denied(denial: Denial) -> Bytes
     ensures result { λ r. ⌜ content r ≡ denial-number denial ∷ denial-values denial ⌝ }
 {
-    let mut bytes = Bytes::new();
-    bytes.push(denial.number());
+    let mut bytes = Bytes::one(denial.number());
     match denial {
         Denial::LevelTooLow {
             task,
@@ -53,23 +53,20 @@ fn denied(denial: Denial) -> Bytes
 fn refused(fault: FrameFault) -> Bytes
     ensures result { λ r. ⌜ content r ≡ number-of fault ∷ values-of fault ⌝ }
 {
-    if let FrameFault::Denied(denial) = fault {
-        return denied(denial);
+    match fault {
+        FrameFault::Denied(denial) => denied(denial),
+        _ => Bytes::one(fault.number()),
     }
-    let mut bytes = Bytes::new();
-    bytes.push(fault.number());
-    bytes
 }
 
 // The bytes of an answer: 0 and what is told, or those of the refusal.
-fn bytes_of(answer: &Answer) -> Bytes
+fn answer_bytes(answer: &Answer) -> Bytes
     ensures result { λ r. ⌜ content r ≡ answer-bytes (now (answer .entry)) ⌝ }
 {
-    let mut bytes = Bytes::new();
-    bytes.push(0);
     match answer {
-        Answer::Done => bytes,
+        Answer::Done => Bytes::one(0),
         Answer::Ticked { loss, intake } => {
+            let mut bytes = Bytes::one(0);
             bytes.extend(&loss.to_be_bytes());
             bytes.extend(&intake.to_be_bytes());
             bytes
@@ -86,6 +83,6 @@ pub fn write_answer(answer: &Answer, out: &mut [u8]) -> Result<usize, FrameFault
     if out.len() < ROOM {
         return Err(FrameFault::ShortAnswer);
     }
-    let bytes = bytes_of(answer);
+    let bytes = answer_bytes(answer);
     Ok(encode(bytes.as_slice(), out))
 }

@@ -1,4 +1,4 @@
-// A few bytes, filled from the front: those of a frame, or of an answer, of which the longest has 57.
+// A few bytes, filled from the front: those of a frame, at most 40, or of an answer, at most 0 and seven totals of 8 bytes each.
 ghost use Prim.Native.Nat.{_≤_};
 
 mod filling;

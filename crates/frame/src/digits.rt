@@ -1,10 +1,10 @@
 // Hexadecimal digits, upper case, two for each byte: a line to its bytes, and bytes to their line.
 ghost use mathlib.Core.Path.{_≡_};
-ghost use mathlib.Core.List.{List, [], _∷_, _++_};
-ghost use Prim.Native.Nat.{ℕ, _+_, _*_, _/_, _%_, _<_, _≤_};
-ghost use lib.ListN.{length, set};
+ghost use mathlib.Core.List.{List};
+ghost use Prim.Native.Nat.{ℕ, _+_, _*_, _<_, _≤_};
+ghost use lib.ListN.{length};
 ghost use Rattle.frame.specs.Bytes.{contents};
-ghost use Rattle.frame.specs.Digits.{value-of, bytes-of, line-of, digit-of, written, over-front};
+ghost use Rattle.frame.specs.Digits.{value-of, bytes-of, line-of, digit-of, with-byte, written, over-front};
 ghost use Rattle.frame.specs.Line.{cut};
 use crate::bytes::Bytes;
 use crate::fault::FrameFault;
@@ -42,10 +42,10 @@ fn bytes_of(digits: &[u8]) -> Result<Bytes, FrameFault>
     }
 }
 
-// The bytes of a line of 2 to 80 digits. The first 81 bytes of a line give the same as the whole of it.
+// The bytes of a line of 2 to 80 digits; the first 81 bytes of a line tell as much as the whole of it.
 pub fn decode(line: &[u8]) -> Result<Bytes, FrameFault>
     ensures result { λ r. ⌜ contents r ≡ line-of (now (line .entry)) ⌝ }
-    ensures whole { λ r. ⌜ ((xs : List ℕ) → now (line .entry) ≡ cut xs → contents r ≡ line-of xs) ⌝ }
+    ensures long { λ r. ⌜ ((xs : List ℕ) → now (line .entry) ≡ cut xs → contents r ≡ line-of xs) ⌝ }
 {
     if line.is_empty() || line.len() > MOST_DIGITS {
         return Err(FrameFault::BadLine);
@@ -64,7 +64,7 @@ fn digit(n: u8) -> u8
 // Writes the two digits of a byte at a place.
 fn put_byte(out: &mut [u8], at: usize, b: u8)
     requires { ⌜ at + 2 ≤ length (now out) ⌝ }
-    ensures after { λ _. ⌜ now (out .exit) ≡ set (set (now (out .entry)) at (digit-of (b / 16))) (at + 1) (digit-of (b % 16)) ⌝ }
+    ensures after { λ _. ⌜ now (out .exit) ≡ with-byte at b (now (out .entry)) ⌝ }
 {
     out[at] = digit(b / 16);
     out[at + 1] = digit(b % 16);

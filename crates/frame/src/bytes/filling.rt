@@ -9,6 +9,7 @@ use super::Bytes;
 const MOST: usize = 57;
 
 impl Bytes {
+    // No bytes.
     pub(crate) fn new() -> Bytes
         ensures result { λ r. ⌜ content r ≡ [] ⌝ }
         ensures len { λ r. ⌜ r .len ≡ 0 ⌝ }
@@ -19,15 +20,24 @@ impl Bytes {
         }
     }
 
+    // One byte.
+    pub(crate) fn one(b: u8) -> Bytes
+        ensures result { λ r. ⌜ content r ≡ b ∷ [] ⌝ }
+        ensures len { λ r. ⌜ r .len ≡ 1 ⌝ }
+    {
+        let mut bytes = Bytes::new();
+        bytes.push(b);
+        bytes
+    }
+
     // One byte more, where there is room for it.
     pub(crate) fn push(&mut self, b: u8)
         requires { ⌜ now self .len + 1 ≤ 57 ⌝ }
         ensures after { λ _. ⌜ content (now (self .exit)) ≡ content (now (self .entry)) ++ b ∷ [] ⌝ }
         ensures len { λ _. ⌜ now (self .exit) .len ≡ now (self .entry) .len + 1 ⌝ }
     {
-        let at = self.len;
-        self.array[at] = b;
-        self.len = at + 1;
+        self.array[self.len] = b;
+        self.len += 1;
     }
 
     // Several bytes more, where there is room for them.

@@ -9,7 +9,8 @@ use Rattle.frame.proofs.bytes.Bytes.extend.Needs as need
 pub loop-b-again : need.loop-b-again
 loop-b-again c =
     let t = take-more (c .args .more .now) (c .loop-b .b-index) 0 (c .loop-b-test .taken) in
-    let a = append-assoc (content (c .args .self .now)) (take (c .loop-b .b-index) (c .args .more .now)) (getD (c .args .more .now) (c .loop-b .b-index) 0 ∷ []) in
+    let a = append-assoc (content (c .args .self .now)) (take (c .loop-b .b-index) (c .args .more .now))
+    (getD (c .args .more .now) (c .loop-b .b-index) 0 ∷ []) in
     (cc (c .push .ensures .after, c .loop-b .inv .0), omega (arith, c .push .ensures .len, c .loop-b .inv .1))
 
 pub returns : need.returns
