@@ -1,0 +1,47 @@
+-- Frames: a first byte that names the kind, then that kind's fields, numbers high byte first. Assumes nothing.
+--     two fs i, four fs i      the number of the two bytes, or the four, of fs from place i on
+--     sized fs n f             the frame f, where its fields fs are n bytes
+--     tick-of fs, capacitor-of fs, layered-of fs, bank-of fs      the frame of each kind with the fields fs
+--     frame-of bs              the frame whose bytes are bs
+use mathlib.Core.Bool.{cond}
+use mathlib.Core.List.{List, [], _∷_}
+use Prim.Native.Nat.{ℕ, _+_, _*_}
+use lib.Dec.{eqb}
+use lib.ListN.{length, getD}
+use Rattle.std.specs.declared.result.Result.{Result}
+use Rattle.std.specs.declared.result.Result.the-variants.{Ok, Err}
+use Rattle.frame.specs.declared.fault.FrameFault.{FrameFault}
+use Rattle.frame.specs.declared.fault.FrameFault.the-variants.{UnknownFrame}
+use Rattle.frame.specs.declared.frame.Frame.{Frame}
+use Rattle.frame.specs.declared.frame.Frame.the-variants.{Capacitor, Layered, Bank, Tick}
+
+abbrev pub two : List ℕ → ℕ → ℕ
+two fs i = getD fs i 0 * 256 + getD fs (i + 1) 0
+
+abbrev pub four : List ℕ → ℕ → ℕ
+four fs i = getD fs i 0 * 16777216 + getD fs (i + 1) 0 * 65536 + getD fs (i + 2) 0 * 256 + getD fs (i + 3) 0
+
+abbrev pub sized : List ℕ → ℕ → Frame → Result Frame FrameFault
+sized fs n f = cond (eqb (length fs) n) (Ok f) (Err UnknownFrame)
+
+-- harvest
+abbrev pub tick-of : List ℕ → Result Frame FrameFault
+tick-of fs = sized fs 4 (Tick (four fs 0))
+
+-- capacity
+abbrev pub capacitor-of : List ℕ → Result Frame FrameFault
+capacitor-of fs = sized fs 4 (Capacitor (four fs 0))
+
+-- capacity, floor, part
+abbrev pub layered-of : List ℕ → Result Frame FrameFault
+layered-of fs = sized fs 10 (Layered (four fs 0) (four fs 4) (two fs 8))
+
+-- three capacities
+abbrev pub bank-of : List ℕ → Result Frame FrameFault
+bank-of fs = sized fs 12 (Bank (four fs 0 ∷ four fs 4 ∷ four fs 8 ∷ []))
+
+abbrev pub frame-of : List ℕ → Result Frame FrameFault
+frame-of [] = Err UnknownFrame
+frame-of (k ∷ fs) =
+    cond (eqb k 8) (tick-of fs)
+    (cond (eqb k 16) (capacitor-of fs) (cond (eqb k 17) (layered-of fs) (cond (eqb k 18) (bank-of fs) (Err UnknownFrame))))

@@ -1,0 +1,13 @@
+// What a node over a store of harvested energy refuses.
+mod denial;
+
+pub use denial::Denial;
+pub use denial::DenialDebug;
+pub use denial::DenialDisplay;
+pub use denial::DenialFromOutOfRange;
+pub use denial::DenialFromOverdraw;
+pub use denial::DenialPartialEq;
+pub use denial::Overdraw;
+pub use denial::OverdrawDebug;
+pub use denial::OverdrawDisplay;
+pub use denial::OverdrawPartialEq;
