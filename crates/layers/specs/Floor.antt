@@ -2,6 +2,7 @@
 --     floor-stage G f      the floor's own stage, of kind R: what is available below less the floor's amount
 --     floor-means G f      its meaning: that of the store below, with this stage on top
 --     Floor-sound G f      the store below is sound
+--     floor-store G        its members as a store
 use Prim.Native.Nat.{_-_}
 use Rattle.store.specs.declared.store.Store.{Ghosts}
 use Rattle.store.specs.Meaning.{Stage, Meaning, meaning, with-stage, top}
@@ -17,3 +18,11 @@ module _ {S : Type 0} (G : Ghosts S) where
 
   abbrev pub Floor-sound : Floor S → Type 0
   Floor-sound f = G .sound (f .below)
+
+  abbrev pub floor-store : Ghosts (Floor S)
+  floor-store = record {
+    held = λ f. floor-means f .held;
+    capacity = λ f. floor-means f .capacity;
+    stages = λ f. floor-means f .stages;
+    sound = Floor-sound;
+  }

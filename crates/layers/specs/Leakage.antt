@@ -6,6 +6,7 @@
 --     leakage-stage G l        the layer's own stage, of kind L, with what is available below
 --     leakage-means G l        its meaning: that of the store below, with this stage on top
 --     Leakage-sound G l        the store below is sound, the part is at most 10,000, the remainder below 10,000
+--     leakage-store G          its members as a store
 --     Leaked G l r m           m is l after a tick that answered r
 --     Same-leak l m            part and remainder are the same
 use mathlib.Core.Path.{_≡_}
@@ -56,3 +57,11 @@ module _ {S : Type 0} (G : Ghosts S) where
     pub told : r ≡ loss + gone
     pub part : m .part ≡ l .part
     pub remainder : m .remainder ≡ kept (between .held) (l .part) (l .remainder)
+
+  abbrev pub leakage-store : Ghosts (Leakage S)
+  leakage-store = record {
+    held = λ l. leakage-means l .held;
+    capacity = λ l. leakage-means l .capacity;
+    stages = λ l. leakage-means l .stages;
+    sound = Leakage-sound;
+  }

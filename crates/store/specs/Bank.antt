@@ -5,6 +5,7 @@
 --     emptied q hs         what the cells hold after q less: the last cell is emptied first
 --     bank-means b         a bank's meaning: one stage, of kind F, with all that the cells hold
 --     Bank-sound b         its cells are within their capacities, which are at most G together
+--     bank-store           its members as a store
 --     with-none cs         the capacities cs, and 0 in what is left of the eight places
 --     new-bank cs          what is made of the capacities cs: an empty bank, where they fit
 --     with-held hs b       the bank b with its cells holding hs
@@ -19,6 +20,7 @@ use Rattle.std.specs.shelf.Lists.{sum}
 use Rattle.rates.specs.Amount.{bound}
 use Rattle.rates.specs.declared.amount.OutOfRange.{OutOfRange}
 use Rattle.store.specs.declared.bank.Bank.{Bank}
+use Rattle.store.specs.declared.store.Store.{Ghosts}
 use Rattle.store.specs.Meaning.{Meaning}
 
 abbrev pub fits : List ℕ → Bool
@@ -50,6 +52,14 @@ bank-means b = record {
 
 abbrev pub Bank-sound : Bank → Type 0
 Bank-sound b = Within (b .capacities) (b .held) × (sum (b .capacities) ≤ bound)
+
+abbrev pub bank-store : Ghosts Bank
+bank-store = record {
+  held = λ b. bank-means b .held;
+  capacity = λ b. bank-means b .capacity;
+  stages = λ b. bank-means b .stages;
+  sound = Bank-sound;
+}
 
 -- there are eight places, and those past the last cell are cells that can hold nothing
 abbrev pub with-none : List ℕ → List ℕ
