@@ -4,14 +4,15 @@
 --     fits-out s q gs           the grant with the serial s is out, and its amount is q
 --     fits-parked s gs          the grant with the serial s is parked
 --     of-reserve i g            the grant g is of reserve i
+--     added g gs                the grants and g after them, where fewer than 64 are open
 --     without serial gs         the grants but for the one with this serial
 --     marked p serial gs        the grants, with the one with this serial parked (p true) or out (p false)
 --     open-in t                 the open grants that the table t holds
 use mathlib.Core.Bool.{Bool, true, false, cond, not, _&&_}
-use mathlib.Core.List.{List, [], _∷_}
+use mathlib.Core.List.{List, [], _∷_, _++_}
 use Prim.Native.Nat.{ℕ}
-use lib.Dec.{eqb}
-use lib.ListN.{take}
+use lib.Dec.{eqb, ltb}
+use lib.ListN.{length, take}
 use Rattle.std.specs.declared.option.Option.{Option}
 use Rattle.std.specs.declared.option.Option.the-variants.{None, Some}
 use Rattle.tables.specs.declared.grants.Grant.{Grant}
@@ -54,6 +55,9 @@ fits-parked serial gs = is-parked (grant-of serial gs)
 
 abbrev pub of-reserve : ℕ → Grant → Bool
 of-reserve i g = eqb (g .reserve) i
+
+abbrev pub added : Grant → List Grant → List Grant
+added g gs = cond (ltb (length gs) 64) (gs ++ g ∷ []) gs
 
 abbrev pub without : ℕ → List Grant → List Grant
 without serial [] = []

@@ -9,6 +9,7 @@
 --     give rs i q, lower rs i q    q more, or less, at reserve i
 --     fill rs i q                  q more at reserve i, up to its headroom
 --     return-to rs i q             q more at reserve i up to its headroom, and the rest at the root
+--     fill-up rs i q               the same with the root filled up to its headroom, which in a sound node is no less
 --     charge-loss q rs             a loss, taken from the root first, then from reserves 31 down to 1
 --     is-parent rs i               reserve i is the parent of an open reserve
 use mathlib.Core.Bool.{Bool, false}
@@ -78,6 +79,9 @@ fill rs i q = give rs i (min q (headroom rs i))
 
 abbrev pub return-to : Reserve-rows → ℕ → ℕ → Reserve-rows
 return-to rs i q = give (fill rs i q) 0 (q - headroom rs i)
+
+abbrev pub fill-up : Reserve-rows → ℕ → ℕ → Reserve-rows
+fill-up rs i q = fill (fill rs i q) 0 (q - headroom rs i)
 
 -- n down to 1
 abbrev pub down-from : ℕ → List ℕ
