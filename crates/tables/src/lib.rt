@@ -1,0 +1,11 @@
+mod reserves;
+mod taps;
+mod grants;
+mod books;
+pub use reserves::Reserve;
+pub use reserves::Reserves;
+pub use taps::Tap;
+pub use taps::Taps;
+pub use grants::Grant;
+pub use grants::Grants;
+pub use books::Books;
