@@ -5,3 +5,5 @@ pub mod Within
 pub mod Facts
 pub mod Well
 pub mod Kept
+pub mod Filled
+pub mod Turns

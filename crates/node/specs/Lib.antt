@@ -4,3 +4,4 @@ pub mod Calls
 pub mod Rules
 pub mod Steps
 pub mod Sound
+pub mod Node

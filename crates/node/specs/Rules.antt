@@ -1,5 +1,6 @@
 -- When a call is turned down, and where a node stands after one that is not. Assumes nothing.
 --     first-of cs               the reason of the first test in cs that holds
+--     request-tests s t i q     what a grant is tested for before the store is asked
 --     tests m s call            what the call is tested for, in checking order, over a store of meaning m
 --     turned-down m s call      why the call is turned down, if it is
 --     before-taps s loss in     the reserves as the taps find them, at a tick that told this loss and this intake
@@ -37,6 +38,17 @@ abbrev pub source-in : Option Tap → ℕ
 source-in None = 0
 source-in (Some t) = t .source
 
+-- what a grant is tested for before the store is asked
+abbrev pub request-tests : Standing → ℕ → ℕ → ℕ → List (Bool × Denial)
+request-tests s task reserve amount =
+    (not (leb reserve 31 && between 1 amount bound), OutOfRange)
+    ∷ (not (present (s .reserves) reserve), Absent)
+    ∷ (not (owns (s .reserves) task reserve), NotOwner)
+    ∷ (leb 64 (length (s .grants)), TooManyGrants)
+    ∷ (leb bound (s .serials), Exhausted)
+    ∷ (ltb (level-at (s .reserves) reserve) amount, LevelTooLow task reserve (amount - level-at (s .reserves) reserve))
+    ∷ []
+
 -- in each call: the ranges first, then what is absent or open already, then the owner, then the rest
 abbrev pub tests : Meaning → Standing → Call → List (Bool × Denial)
 tests m s (open-reserve task parent number owner limit amount) =
@@ -66,13 +78,8 @@ tests m s (shut-tap task tap) =
     ∷ (not (owns (s .reserves) task (source-in (getD (s .taps) tap None))), NotOwner)
     ∷ []
 tests m s (request task reserve amount) =
-    (not (leb reserve 31 && between 1 amount bound), OutOfRange)
-    ∷ (not (present (s .reserves) reserve), Absent)
-    ∷ (not (owns (s .reserves) task reserve), NotOwner)
-    ∷ (leb 64 (length (s .grants)), TooManyGrants)
-    ∷ (leb bound (s .serials), Exhausted)
-    ∷ (ltb (level-at (s .reserves) reserve) amount, LevelTooLow task reserve (amount - level-at (s .reserves) reserve))
-    ∷ (ltb (top (m .stages)) amount, StoreRefused (record { task = task; reserve = reserve; fault = fault-from 0 amount (m .stages) }))
+    request-tests s task reserve amount
+    ++ (ltb (top (m .stages)) amount, StoreRefused (record { task = task; reserve = reserve; fault = fault-from 0 amount (m .stages) }))
     ∷ []
 tests m s (settle serial amount used) =
     (not (fits-out serial amount (s .grants)), NoSuchGrant)

@@ -1,5 +1,7 @@
-// What a node over a store of harvested energy refuses.
+// Reserves, taps and grants over a store of harvested energy.
 mod denial;
+mod node;
+mod slip;
 
 pub use denial::Denial;
 pub use denial::DenialDebug;
@@ -11,3 +13,5 @@ pub use denial::Overdraw;
 pub use denial::OverdrawDebug;
 pub use denial::OverdrawDisplay;
 pub use denial::OverdrawPartialEq;
+pub use node::Node;
+pub use slip::Slip;

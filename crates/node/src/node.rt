@@ -1,0 +1,160 @@
+// A node: reserves, taps and grants over a store of harvested energy.
+ghost use mathlib.Core.Path.{_≡_};
+ghost use Prim.Native.Nat.{_-_};
+ghost use lib.ListN.{drop};
+ghost use Rattle.std.specs.Vec.{made, refused};
+ghost use Rattle.store.specs.Meaning.{Meaning};
+ghost use Rattle.node.specs.Calls.{settle as settlement, park as park-call};
+ghost use Rattle.node.specs.Rules.{turned-down};
+ghost use Rattle.node.specs.Steps.{verdict};
+ghost use Rattle.node.specs.Node.{standing-of, Newborn, Extends, opening, closing, tapping, shutting};
+ghost use Rattle.node.specs.Node.{granting, settling, parking, recalling, ticking, Drawn-for};
+use crate::denial::Denial;
+use crate::denial::DenialFromOverdraw;
+use crate::denial::Overdraw;
+use crate::slip::Slip;
+use rates::G;
+use store::Store;
+use tables::Books;
+use tables::Grants;
+use tables::Reserve;
+use tables::Reserves;
+use tables::Tap;
+use tables::Taps;
+
+mod checks;
+
+const ROOT: u8 = 0;
+const TAPS: usize = 96;
+
+#[derive(Drop)]
+pub struct Node<S> {
+    store: S,
+    reserves: Reserves,
+    taps: Taps,
+    grants: Grants,
+    books: Books,
+    // Accepted ticks.
+    ticks: u32,
+}
+
+// Draws for a task, from a reserve of its: a fault is told with both.
+fn draw<S: Store>(store: &mut S, task: u8, reserve: u8, amount: u32) -> Result<(), Overdraw>
+    ensures drawn { λ r. ⌜ Drawn-for (S·Store) task reserve amount (now (store .entry)) r (now (store .exit)) ⌝ }
+    ensures same { λ r. ⌜ refused r (λ _. now (store .exit) ≡ now (store .entry)) ⌝ }
+{
+    match store.draw(amount) {
+        Ok(()) => Ok(()),
+        Err(fault) => Err(Overdraw {
+            task,
+            reserve,
+            fault,
+        }),
+    }
+}
+
+impl<S: Store> Node<S> {
+    // A node over any store: only the root is open, and its level is what the store holds.
+    pub fn new(store: S) -> Node<S>
+        ensures new { λ r. ⌜ (S·Store .sound store → Newborn (S·Store) store r) ⌝ }
+    {
+        let held = store.held();
+        Node {
+            store,
+            reserves: Reserves::new(held),
+            taps: Taps::new(),
+            grants: Grants::new(),
+            books: Books::new(held),
+            ticks: 0,
+        }
+    }
+
+    // Opens a reserve under a parent that the task owns; the amount goes from the parent to it.
+    pub fn open(
+        &mut self,
+        task: u8,
+        parent: u8,
+        number: u8,
+        owner: u8,
+        limit: u32,
+        amount: u32,
+    ) -> Result<(), Denial>
+        ensures step { λ r. ⌜ Extends (S·Store) (now (self .entry)) (opening task parent number owner limit amount r) (now (self .exit)) ⌝ }
+        ensures same { λ r. ⌜ refused r (λ _. now (self .exit) ≡ now (self .entry)) ⌝ }
+    {
+        self.may_open(task, parent, number, limit, amount)?;
+        self.reserves.lower(parent, amount);
+        let level = amount;
+        self.reserves.open(
+            number,
+            Reserve {
+                owner,
+                parent,
+                limit,
+                level,
+            },
+        );
+        Ok(())
+    }
+
+    // Closes a reserve; its level goes to its parent up to the headroom, and what is over to the root.
+    pub fn close(&mut self, task: u8, number: u8) -> Result<(), Denial>
+        ensures step { λ r. ⌜ Extends (S·Store) (now (self .entry)) (closing task number r) (now (self .exit)) ⌝ }
+        ensures same { λ r. ⌜ refused r (λ _. now (self .exit) ≡ now (self .entry)) ⌝ }
+    {
+        let row = self.may_close(task, number)?;
+        self.reserves.close(number);
+        self.reserves.fill_up(row.parent, row.level);
+        Ok(())
+    }
+
+    // Opens a tap of n quanta in d ticks.
+    pub fn tap(
+        &mut self,
+        task: u8,
+        tap: u8,
+        source: u8,
+        sink: u8,
+        n: u32,
+        d: u32,
+    ) -> Result<(), Denial>
+        ensures step { λ r. ⌜ Extends (S·Store) (now (self .entry)) (tapping task tap source sink n d r) (now (self .exit)) ⌝ }
+        ensures same { λ r. ⌜ refused r (λ _. now (self .exit) ≡ now (self .entry)) ⌝ }
+    {
+        self.may_tap(task, tap, source, sink, n, d)?;
+        self.taps.open(
+            tap,
+            Tap {
+                source,
+                sink,
+                n,
+                d,
+                r: 0,
+            },
+        );
+        Ok(())
+    }
+
+    pub fn shut(&mut self, task: u8, tap: u8) -> Result<(), Denial>
+        ensures step { λ r. ⌜ Extends (S·Store) (now (self .entry)) (shutting task tap r) (now (self .exit)) ⌝ }
+        ensures same { λ r. ⌜ refused r (λ _. now (self .exit) ≡ now (self .entry)) ⌝ }
+    {
+        self.may_shut(task, tap)?;
+        self.taps.shut(tap);
+        Ok(())
+    }
+
+    // Draws the amount from the store, and only then lowers the level: a slip for it.
+    pub fn grant(&mut self, task: u8, reserve: u8, amount: u32) -> Result<Slip, Denial>
+        ensures step { λ r. ⌜ Extends (S·Store) (now (self .entry)) (granting task reserve amount r) (now (self .exit)) ⌝ }
+        ensures same { λ r. ⌜ refused r (λ _. now (self .exit) ≡ now (self .entry)) ⌝ }
+        ensures amount { λ r. ⌜ made r (λ slip. slip .amount ≡ amount) ⌝ }
+    {
+        self.may_request(task, reserve, amount)?;
+        draw(&mut self.store, task, reserve, amount)?;
+        self.reserves.lower(reserve, amount);
+        let serial = self.grants.add(amount, reserve);
+        self.books.grant(amount);
+        Ok(Slip { serial, amount })
+    }
+}
