@@ -8,7 +8,7 @@
 --     without serial gs         the grants but for the one with this serial
 --     marked p serial gs        the grants, with the one with this serial parked (p true) or out (p false)
 --     open-in t                 the open grants that the table t holds
-use mathlib.Core.Bool.{Bool, true, false, cond, not, _&&_}
+use mathlib.Core.Bool.{Bool, false, cond, not, _&&_}
 use mathlib.Core.List.{List, [], _∷_, _++_}
 use Prim.Native.Nat.{ℕ}
 use lib.Dec.{eqb, ltb}

@@ -1,11 +1,13 @@
+// The tables of a node, plain rows of numbers: reserves, constant taps, grants and books.
+mod books;
+mod grants;
 mod reserves;
 mod taps;
-mod grants;
-mod books;
+
+pub use books::Books;
+pub use grants::Grant;
+pub use grants::Grants;
 pub use reserves::Reserve;
 pub use reserves::Reserves;
 pub use taps::Tap;
 pub use taps::Taps;
-pub use grants::Grant;
-pub use grants::Grants;
-pub use books::Books;

@@ -1,0 +1,4 @@
+pub mod RowLaws
+pub mod ReserveLaws
+pub mod TapLaws
+pub mod GrantLaws
