@@ -6,4 +6,10 @@ pub mod Facts
 pub mod Well
 pub mod Kept
 pub mod Filled
+pub mod Closing
 pub mod Turns
+pub mod Birth
+pub mod Counting
+pub mod Granting
+pub mod Settling
+pub mod Goes

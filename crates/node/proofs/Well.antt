@@ -106,6 +106,11 @@ parents-closed rs i childless p j o = ⊎-elim
     subst (λ y. present (set rs i None) y ≡ true) (sym (ap parent-in same)) (stays-open rs i (parent-of rs (suc j)) (not-parent rs i j childless was) (p j was)))
     (cases-eq (suc j) i)
 
+-- the parent of a reserve that closes stays open
+pub parent-open : (rs : Reserve-rows) (i : ℕ) → 1 ≤ i → present rs i ≡ true → is-parent rs i ≡ false → Parents rs → present (set rs i None) (parent-of rs i) ≡ true
+parent-open rs zero low here childless p = absurd (omega arith)
+parent-open rs (suc j) low here childless p = stays-open rs (suc j) (parent-of rs (suc j)) (not-parent rs (suc j) j childless here) (p j here)
+
 taps-closed : (rs : Reserve-rows) (ts : Tap-rows) (i : ℕ) → any (ends-at i) ts ≡ false → Taps-well rs ts → Taps-well (set rs i None) ts
 taps-closed rs ts i untapped w k t here =
     let was = w k t here in
@@ -285,7 +290,7 @@ well-closed s held held′ (suc j) f w =
     let placed : suc j < length rs = omega (arith, w .reserves, f .high) in
     let gone = levels-set rs (suc j) None placed in
     let root : present left 0 ≡ true = stays-open rs (suc j) 0 (λ e. omega arith) (w .root) in
-    let up : present left (parent-of rs (suc j)) ≡ true = stays-open rs (suc j) (parent-of rs (suc j)) (not-parent rs (suc j) j (f .childless) (f .here)) (w .parents j (f .here)) in
+    let up : present left (parent-of rs (suc j)) ≡ true = parent-open rs (suc j) (f .low) (f .here) (f .childless) (w .parents) in
     let back = levels-return left (parent-of rs (suc j)) (level-at rs (suc j)) up root in
     let without-it : Well (record { reserves = left; taps = s .taps; grants = s .grants; serials = s .serials; ticks = s .ticks }) (levels left) = record {
       reserves = length-set rs (suc j) None ∙ w .reserves;

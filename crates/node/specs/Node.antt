@@ -3,7 +3,7 @@
 --     state G n              its state: the store's meaning, where it stands, and its books
 --     Sound-node G n         its store is sound, and its state is whole
 --     Extends G n e m        from a sound node n, the event e leads to m, which is sound
---     Newborn G store n      n is a new node over the store
+--     Newborn G s n          n is a new node over the store s
 --     Drawn-for G t i q s r s′      s′ is the store s after a draw of q for task t from reserve i that answered r
 --     refusal-of r           why a call was refused, if it was
 --     opening, closing, tapping, shutting, granting, settling, parking, recalling, ticking
@@ -52,11 +52,11 @@ module _ {S : Type 0} (G : Ghosts S) where
   Extends n e m = Sound-node n → Sound-node m × Step (state n) e (state m)
 
   -- only the root is open, whose level is what the store holds
-  pub record Newborn (store : S) (n : Node S) : Type 0 where
+  pub record Newborn (over : S) (n : Node S) : Type 0 where
     pub sound : Sound-node n
-    pub store : n .store ≡ store
-    pub standing : standing-of n ≡ born (G .held store)
-    pub books : n .books ≡ first-books (G .held store)
+    pub store : n .store ≡ over
+    pub standing : standing-of n ≡ born (G .held over)
+    pub books : n .books ≡ first-books (G .held over)
 
   -- a fault is told with the task and the reserve that met it
   abbrev pub Drawn-for : ℕ → ℕ → ℕ → S → Result (Unit {0}) Overdraw → S → Type 0

@@ -157,4 +157,55 @@ impl<S: Store> Node<S> {
         self.books.grant(amount);
         Ok(Slip { serial, amount })
     }
+
+    // The used quanta are spent, and the unused ones charged to the store: what of them is lost.
+    pub fn settle(&mut self, slip: Slip, used: u32) -> Result<u32, (Denial, Slip)>
+        ensures step { λ r. ⌜ Extends (S·Store) (now (self .entry)) (settling slip used r) (now (self .exit)) ⌝ }
+        ensures judged { λ r. ⌜ ((m : Meaning) → turned-down m (standing-of (now (self .entry))) (settlement (slip .serial) (slip .amount) used) ≡ verdict (settling slip used r)) ⌝ }
+        ensures same { λ r. ⌜ refused r (λ e. (e .1 ≡ slip) × (now (self .exit) ≡ now (self .entry))) ⌝ }
+    {
+        let Some(grant) = self.out(slip.serial, slip.amount) else {
+            return Err((Denial::NoSuchGrant, slip));
+        };
+        if slip.amount < used {
+            return Err((Denial::Overused, slip));
+        }
+        let Slip { serial, amount } = slip;
+        let unused = amount - used;
+        let taken = self.store.charge(unused);
+        let lost = unused.saturating_sub(taken);
+        self.reserves.fill_up(grant.reserve, taken);
+        self.grants.remove(serial);
+        self.books.settle(amount, used, lost);
+        Ok(lost)
+    }
+
+    // Leaves the slip's serial with the node, and answers it.
+    pub fn park(&mut self, slip: Slip) -> Result<u32, (Denial, Slip)>
+        ensures step { λ r. ⌜ Extends (S·Store) (now (self .entry)) (parking slip r) (now (self .exit)) ⌝ }
+        ensures judged { λ r. ⌜ ((m : Meaning) → turned-down m (standing-of (now (self .entry))) (park-call (slip .serial) (slip .amount)) ≡ verdict (parking slip r)) ⌝ }
+        ensures same { λ r. ⌜ refused r (λ e. (e .1 ≡ slip) × (now (self .exit) ≡ now (self .entry))) ⌝ }
+        ensures serial { λ r. ⌜ made r (λ serial. serial ≡ slip .serial) ⌝ }
+    {
+        let Some(_) = self.out(slip.serial, slip.amount) else {
+            return Err((Denial::NoSuchGrant, slip));
+        };
+        let Slip { serial, amount: _ } = slip;
+        self.grants.mark(serial, true);
+        Ok(serial)
+    }
+
+    // Turns a parked serial into a slip again, for the task that owns the reserve.
+    pub fn recall(&mut self, task: u8, serial: u32) -> Result<Slip, Denial>
+        ensures step { λ r. ⌜ Extends (S·Store) (now (self .entry)) (recalling task serial r) (now (self .exit)) ⌝ }
+        ensures same { λ r. ⌜ refused r (λ _. now (self .exit) ≡ now (self .entry)) ⌝ }
+        ensures serial { λ r. ⌜ made r (λ slip. slip .serial ≡ serial) ⌝ }
+    {
+        let grant = self.may_recall(task, serial)?;
+        self.grants.mark(serial, false);
+        Ok(Slip {
+            serial,
+            amount: grant.amount,
+        })
+    }
 }
