@@ -71,7 +71,7 @@ module _ (m : Meaning) (s : Standing) (task reserve amount : ℕ) where
   grant-step b b′ m′ rs gs serial serials sound w clear d lowered given adds counts books =
       let next : serial ≡ s .serials + 1 = omega (arith, given, w .well .serials) in
       let judged : turned-down m s (request task reserve amount) ≡ None = asked-store clear
-          ∙ ap (λ x. cond x (Some (StoreRefused (record { task = task; reserve = reserve; fault = fault-from 0 amount (m .stages) }))) None) (le-ltb (top (m .stages)) amount (d .0)) in
+      ∙ ap (λ x. cond x (Some (StoreRefused (record { task = task; reserve = reserve; fault = fault-from 0 amount (m .stages) }))) None) (le-ltb (top (m .stages)) amount (d .0)) in
       let f = facts m s b (granted task reserve amount serial) m′ 0 sound judged (next, d .1) in
       let g : Grant = record { serial = serial; amount = amount; reserve = reserve; parked = false } in
       record {

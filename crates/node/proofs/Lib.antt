@@ -12,4 +12,5 @@ pub mod Birth
 pub mod Counting
 pub mod Granting
 pub mod Settling
+pub mod Ticking
 pub mod Goes

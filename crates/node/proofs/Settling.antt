@@ -40,7 +40,7 @@ settle-step m m′ s b b′ serial amount used back lost g rs gs serials sound w
     let here : reserve-of serial (s .grants) ≡ g .reserve = ap reserve-in found in
     let taken : back ≡ amount - used - lost = omega (arith, charged .told, lost-is) in
     let returned : fill-up (s .reserves) (reserve-of serial (s .grants)) back ≡ return-to (s .reserves) (reserve-of serial (s .grants)) back =
-        filled-up (s .reserves) (reserve-of serial (s .grants)) back (known .0) (w .well .root-limit) (omega (arith, w .well .levels, charged .held, sound .within, sound .bounded)) in
+    filled-up (s .reserves) (reserve-of serial (s .grants)) back (known .0) (w .well .root-limit) (omega (arith, w .well .levels, charged .held, sound .within, sound .bounded)) in
     record {
       places = 0;
       judged = settle-clear m s serial amount used fits le;

@@ -7,11 +7,11 @@ use lib.ListN.{length, getD, set, take, drop}
 use lib.Seq.{set-at}
 use Rattle.std.specs.declared.option.Option.{Option}
 use Rattle.std.specs.declared.option.Option.the-variants.{None, Some}
-use Rattle.std.proofs.shelf.Lists.{take-more, drop-more, getD-at, length-take-le}
+use Rattle.std.proofs.shelf.Lists.{take-more, take-more-set, take-all, drop-more, drop-all, append-nil, getD-at, length-take-le}
 use Rattle.tables.specs.declared.taps.Tap.{Tap}
 use Rattle.tables.specs.Rows.{each}
 use Rattle.tables.specs.Reserves.{Reserve-rows}
-use Rattle.tables.specs.Taps.{Tap-rows, stepped, figure-of, moved, after-moves, Figures}
+use Rattle.tables.specs.Taps.{Tap-rows, stepped, figure-of, moved, after-moves, Figures, Tap-fits, Ran}
 
 pub figures-length : (rs : Reserve-rows) (ts : Tap-rows) (qs : List ℕ) → Figures rs ts qs → length ts ≡ length qs
 figures-length rs [] [] f = refl
@@ -62,3 +62,25 @@ module _ (ts : Tap-rows) (k : ℕ) (lt : k < length ts) where
       ∙ sym (append-assoc (each stepped (take k ts)) (stepped (getD ts k None) ∷ []) (drop (k + 1) ts))
       ∙ ap (λ xs. xs ++ drop (k + 1) ts) (sym (each-push (take k ts) (getD ts k None)))
       ∙ ap (λ xs. each stepped xs ++ drop (k + 1) ts) (sym (take-more ts k None lt))
+
+-- what tap k's turn makes of the turns before it
+pub turn-more : (start : Reserve-rows) (ts : Tap-rows) (report : List ℕ) (k q : ℕ) (rs rs′ : Reserve-rows) (now now′ : Tap-rows) → k < length ts → k < length report → Tap-fits (getD ts k None)
+    → now ≡ turned k ts → rs ≡ after-moves start (take k ts) (take k report) → Figures start (take k ts) (take k report) → Ran k rs now q rs′ now′
+    → (now′ ≡ turned (k + 1) ts) × (rs′ ≡ after-moves start (take (k + 1) ts) (take (k + 1) (set report k q))) × Figures start (take (k + 1) ts) (take (k + 1) (set report k q))
+turn-more start ts report k q rs rs′ now now′ lt room fits tapped stands figures ran =
+    let row : getD now k None ≡ getD ts k None = ap (λ xs. getD xs k None) tapped ∙ turned-here ts k lt in
+    let fit : Tap-fits (getD now k None) = subst Tap-fits (sym row) fits in
+    let figure : q ≡ figure-of (after-moves start (take k ts) (take k report)) (getD ts k None) = ran .figure fit ∙ ap (figure-of rs) row ∙ ap (λ x. figure-of x (getD ts k None)) stands in
+    let front : take (k + 1) ts ≡ take k ts ++ getD ts k None ∷ [] = take-more ts k None lt in
+    let told : take (k + 1) (set report k q) ≡ take k report ++ q ∷ [] = take-more-set report k q room in (
+      ran .taps fit ∙ ap (λ o. set now k (stepped o)) row ∙ ap (λ xs. set xs k (stepped (getD ts k None))) tapped ∙ turned-more ts k lt,
+      ran .reserves fit ∙ ap (λ o. moved rs o q) row ∙ ap (λ x. moved x (getD ts k None) q) stands
+          ∙ sym (moves-more start (take k ts) (take k report) (getD ts k None) q figures)
+          ∙ ap (λ xs. after-moves start xs (take k report ++ q ∷ [])) (sym front) ∙ ap (after-moves start (take (k + 1) ts)) (sym told),
+      subst (λ xs. Figures start xs (take (k + 1) (set report k q))) (sym front)
+          (subst (Figures start (take k ts ++ getD ts k None ∷ [])) (sym told) (figures-more start (take k ts) (take k report) (getD ts k None) q figures figure)),
+    )
+
+-- after the last turn
+pub turned-all : (ts : Tap-rows) (k : ℕ) → length ts ≤ k → turned k ts ≡ each stepped ts
+turned-all ts k all = ap (λ xs. each stepped xs ++ drop k ts) (take-all k ts all) ∙ ap (λ xs. each stepped ts ++ xs) (drop-all k ts all) ∙ append-nil (each stepped ts)

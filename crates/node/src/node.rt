@@ -25,6 +25,7 @@ use tables::Taps;
 mod checks;
 
 const ROOT: u8 = 0;
+
 const TAPS: usize = 96;
 
 #[derive(Drop)]
@@ -207,5 +208,33 @@ impl<S: Store> Node<S> {
             serial,
             amount: grant.amount,
         })
+    }
+
+    // The store ticks and its loss is charged; the harvest is taken in; then the taps run. What was lost and taken
+    // in is answered, and what each tap moved is written into the first 96 places of the report.
+    pub fn tick(&mut self, harvest: u32, report: &mut [u32]) -> Result<(u32, u32), Denial>
+        ensures step { λ r. ⌜ Extends (S·Store) (now (self .entry)) (ticking harvest (now (report .exit)) r) (now (self .exit)) ⌝ }
+        ensures same { λ r. ⌜ refused r (λ _. (now (self .exit) ≡ now (self .entry)) × (now (report .exit) ≡ now (report .entry))) ⌝ }
+        ensures further { λ _. ⌜ drop 96 (now (report .exit)) ≡ drop 96 (now (report .entry)) ⌝ }
+    {
+        if report.len() < TAPS {
+            return Err(Denial::ShortReport);
+        }
+        if harvest > G {
+            return Err(Denial::OutOfRange);
+        }
+        if self.ticks >= G {
+            return Err(Denial::Exhausted);
+        }
+        let loss = self.store.tick();
+        self.reserves.charge_loss(loss);
+        let intake = self.store.charge(harvest);
+        let _ = self.reserves.fill(ROOT, intake);
+        for k in 0..TAPS {
+            report[k] = self.taps.run(k, &mut self.reserves);
+        }
+        self.ticks += 1;
+        self.books.tick(harvest, loss, intake);
+        Ok((loss, intake))
     }
 }

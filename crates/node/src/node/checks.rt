@@ -21,7 +21,9 @@ use tables::Grant;
 use tables::Reserve;
 
 const LAST_RESERVE: u8 = 31;
+
 const LAST_TAP: u8 = 95;
+
 const MOST_GRANTS: usize = 64;
 
 // There is a rate n / d.
@@ -68,7 +70,11 @@ impl<S> Node<S> {
         }
         if from.level < amount {
             let deficit = amount - from.level;
-            return Err(Denial::LevelTooLow { task, reserve: parent, deficit });
+            return Err(Denial::LevelTooLow {
+                task,
+                reserve: parent,
+                deficit,
+            });
         }
         Ok(())
     }
@@ -86,13 +92,24 @@ impl<S> Node<S> {
         if row.owner != task {
             return Err(Denial::NotOwner);
         }
-        if self.reserves.is_parent(number) || self.taps.ends_at(number) || self.grants.any_of(number) {
+        if self.reserves.is_parent(number)
+            || self.taps.ends_at(number)
+            || self.grants.any_of(number)
+        {
             return Err(Denial::InUse);
         }
         Ok(row)
     }
 
-    pub(super) fn may_tap(&self, task: u8, tap: u8, source: u8, sink: u8, n: u32, d: u32) -> Result<(), Denial>
+    pub(super) fn may_tap(
+        &self,
+        task: u8,
+        tap: u8,
+        source: u8,
+        sink: u8,
+        n: u32,
+        d: u32,
+    ) -> Result<(), Denial>
         ensures judged { λ r. ⌜ ((m : Meaning) → refusal-of r ≡ turned-down m (standing-of (now (self .entry))) (open-tap task tap source sink n d)) ⌝ }
     {
         if !(tap <= LAST_TAP && source <= LAST_RESERVE && sink <= LAST_RESERVE && is_rate(n, d)) {
@@ -149,7 +166,11 @@ impl<S> Node<S> {
         }
         if row.level < amount {
             let deficit = amount - row.level;
-            return Err(Denial::LevelTooLow { task, reserve, deficit });
+            return Err(Denial::LevelTooLow {
+                task,
+                reserve,
+                deficit,
+            });
         }
         Ok(())
     }

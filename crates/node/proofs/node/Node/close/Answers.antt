@@ -30,9 +30,9 @@ returns g c = record {
       let sound = g .S·Store·met .means (c .args .self .now .store) (s .store) in
       let left : c .close .last .self .rows ≡ set rs (c .args .number) None = c .close .ensures .after in
       let filled : c .fill-up .last .self .rows ≡ fill-up (set rs (c .args .number) None) (parent-of rs (c .args .number)) (level-at rs (c .args .number)) =
-          c .fill-up .ensures .after
-          ∙ ap (λ x. fill-up x (c .in-Continue-row .row .parent) (c .in-Continue-row .row .level)) left
-          ∙ ap (λ o. fill-up (set rs (c .args .number) None) (parent-in o) (level-in o)) (sym row) in
+      c .fill-up .ensures .after
+      ∙ ap (λ x. fill-up x (c .in-Continue-row .row .parent) (c .in-Continue-row .row .level)) left
+      ∙ ap (λ o. fill-up (set rs (c .args .number) None) (parent-in o) (level-in o)) (sym row) in
       goes (g .S·Store) (g .S·Store·met .means) (c .args .self .now) _ (closed (c .args .task) (c .args .number)) s (s .store)
       (record {
         places = 0;
