@@ -21,7 +21,7 @@ use Rattle.tables.specs.declared.books.Books.{Books}
 use Rattle.node.specs.declared.denial.Denial.{Denial}
 use Rattle.node.specs.Standing.{Standing}
 use Rattle.node.specs.Calls.{Event, open-reserve, close-reserve, open-tap, request, settle, tick}
-use Rattle.node.specs.Calls.{refused, opened, closed, tapped, shut, granted, settled, parked, recalled, ticked}
+use Rattle.node.specs.Calls.{refused, opened, closed, tapped, shut, granted, settled, parked, recalled, ticked, audited}
 use Rattle.node.specs.Rules.{tests, turned-down, before-taps, first-of}
 use Rattle.node.specs.Steps.{Answers, asked, verdict}
 use Rattle.node.proofs.Places.{none-some}
@@ -92,6 +92,7 @@ Facts old s (settled serial amount used lost) left = Settling s serial amount us
 Facts old s (parked serial amount) left = left ≡ old
 Facts old s (recalled task serial amount) left = left ≡ old
 Facts old s (ticked harvest loss intake figures) left = Ticking s harvest loss intake figures old left
+Facts old s (audited t) left = left ≡ old
 
 -- no test turned the call down
 abbrev Cleared : List (Bool × Denial) → Type 0
@@ -191,3 +192,4 @@ facts m s b (ticked harvest loss intake figures) m′ places ok j a =
       held = omega (arith, a .1 .held, a .2 .held);
       figures = a .3;
     }
+facts m s b (audited t) m′ places ok j a = same-held (a .1)

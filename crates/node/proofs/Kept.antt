@@ -10,7 +10,7 @@ use Rattle.store.specs.Meaning.{Sound}
 use Rattle.tables.specs.declared.books.Books.{Books}
 use Rattle.tables.specs.declared.grants.Grant.{Grant}
 use Rattle.node.specs.Standing.{Standing}
-use Rattle.node.specs.Calls.{Event, refused, opened, closed, tapped, shut, granted, settled, parked, recalled, ticked}
+use Rattle.node.specs.Calls.{Event, refused, opened, closed, tapped, shut, granted, settled, parked, recalled, ticked, audited}
 use Rattle.node.specs.Rules.{after}
 use Rattle.node.specs.Steps.{State, Step, counted}
 use Rattle.node.specs.Sound.{Well, Few, Whole}
@@ -29,6 +29,7 @@ few-marked s t b ticks serials size f = record {
 
 few-after : (s : Standing) (held : ℕ) (b : Books) (e : Event) (held′ : ℕ) → held ≤ bound → Facts held s e held′ → Well s held → Few s b → Few (after s e) (counted b e)
 few-after s held b (refused call why) held′ most x w f = f
+few-after s held b (audited t) held′ most x w f = f
 few-after s held b (opened task parent number owner limit amount) held′ most x w f = record { received = f .received; outstanding = f .outstanding; granted = f .granted; settled = f .settled; spent = f .spent; lost = f .lost }
 few-after s held b (closed task number) held′ most x w f = record { received = f .received; outstanding = f .outstanding; granted = f .granted; settled = f .settled; spent = f .spent; lost = f .lost }
 few-after s held b (tapped task tap source sink n d) held′ most x w f = record { received = f .received; outstanding = f .outstanding; granted = f .granted; settled = f .settled; spent = f .spent; lost = f .lost }

@@ -14,3 +14,10 @@ pub mod Granting
 pub mod Settling
 pub mod Ticking
 pub mod Goes
+pub mod Tale
+pub mod Ledger
+pub mod Accounts
+pub mod Sums
+pub mod Pace
+pub mod Root
+pub mod Lawful

@@ -1,7 +1,7 @@
 -- The turns of the taps in one tick, one after the other.
 use mathlib.Core.Path.{_≡_, refl, sym, ap, subst, _∙_}
 use mathlib.Core.List.{List, [], _∷_, _++_, append-assoc}
-use Prim.Native.Nat.{ℕ, suc, _+_, _≤_, _<_}
+use Prim.Native.Nat.{ℕ, zero, suc, _+_, _≤_, _<_}
 use native.Mathlib.Omega.{arith}
 use lib.ListN.{length, getD, set, take, drop}
 use lib.Seq.{set-at}
@@ -84,3 +84,11 @@ turn-more start ts report k q rs rs′ now now′ lt room fits tapped stands fig
 -- after the last turn
 pub turned-all : (ts : Tap-rows) (k : ℕ) → length ts ≤ k → turned k ts ≡ each stepped ts
 turned-all ts k all = ap (λ xs. each stepped xs ++ drop k ts) (take-all k ts all) ∙ ap (λ xs. each stepped ts ++ xs) (drop-all k ts all) ∙ append-nil (each stepped ts)
+
+-- the figure of tap k is what it moves at its turn
+pub figure-at : (rs : Reserve-rows) (ts : Tap-rows) (qs : List ℕ) (k : ℕ) → Figures rs ts qs → getD qs k 0 ≡ figure-of (after-moves rs (take k ts) (take k qs)) (getD ts k None)
+figure-at rs [] [] k f = refl
+figure-at rs [] (q ∷ qs) k f = absurd f
+figure-at rs (t ∷ ts) [] k f = absurd f
+figure-at rs (t ∷ ts) (q ∷ qs) zero f = f .0
+figure-at rs (t ∷ ts) (q ∷ qs) (suc k) f = figure-at (moved rs t q) ts qs k (f .1)

@@ -21,7 +21,7 @@ use Rattle.tables.specs.Reserves.{Reserve-rows, level-in, level-at, limit-in, p
 use Rattle.tables.specs.Taps.{Tap-rows, stepped, ends-at, figure-of, moved, after-moves, Figures}
 use Rattle.tables.specs.Grants.{grant-of, reserve-in, reserve-of, out-with, fits-out, of-reserve, without, marked}
 use Rattle.node.specs.Standing.{Standing, born}
-use Rattle.node.specs.Calls.{Event, refused, opened, closed, tapped, shut, granted, settled, parked, recalled, ticked}
+use Rattle.node.specs.Calls.{Event, refused, opened, closed, tapped, shut, granted, settled, parked, recalled, ticked, audited}
 use Rattle.node.specs.Rules.{after, before-taps}
 use Rattle.node.specs.Sound.{levels, Within, Parents, Tap-well, Taps-well, Grants-well, Well}
 use Rattle.node.proofs.Places.{none-some, nothing-there, some-same, read-written, read-elsewhere, read-empty, getD-each}
@@ -425,6 +425,7 @@ well-after s held (parked serial amount) held′ f w =
 well-after s held (recalled task serial amount) held′ f w =
     re-granted s held′ (marked false serial (s .grants)) (s .serials) (grants-marked (s .reserves) false serial (s .grants) (w .owners)) (omega (arith, length-marked false serial (s .grants), w .few)) (omega (arith, length-marked false serial (s .grants), w .given)) (w .serials) (well-same s held held′ f w)
 well-after s held (ticked harvest loss intake figures) held′ f w = well-tick s held held′ harvest loss intake figures f w
+well-after s held (audited t) held′ f w = well-same s held held′ f w
 
 pub well-born : (held : ℕ) → Well (born held) held
 well-born held = record {

@@ -5,3 +5,5 @@ pub mod Rules
 pub mod Steps
 pub mod Sound
 pub mod Node
+pub mod Law
+pub mod Runs

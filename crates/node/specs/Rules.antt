@@ -24,8 +24,8 @@ use Rattle.node.specs.declared.denial.Denial.{Denial}
 use Rattle.node.specs.declared.denial.Denial.the-variants.{ShortReport, OutOfRange, Absent, AlreadyOpen, NoSuchGrant, NotOwner, SameEnds}
 use Rattle.node.specs.declared.denial.Denial.the-variants.{AboveLimit, InUse, Overused, TooManyGrants, Exhausted, LevelTooLow, StoreRefused}
 use Rattle.node.specs.Standing.{Standing}
-use Rattle.node.specs.Calls.{Call, Event, open-reserve, close-reserve, open-tap, shut-tap, request, settle, park, recall, tick}
-use Rattle.node.specs.Calls.{refused, opened, closed, tapped, shut, granted, settled, parked, recalled, ticked}
+use Rattle.node.specs.Calls.{Call, Event, open-reserve, close-reserve, open-tap, shut-tap, request, settle, park, recall, tick, audit}
+use Rattle.node.specs.Calls.{refused, opened, closed, tapped, shut, granted, settled, parked, recalled, ticked, audited}
 
 abbrev pub first-of : List (Bool × Denial) → Option Denial
 first-of [] = None
@@ -95,6 +95,7 @@ tests m s (tick harvest places) =
     ∷ (ltb bound harvest, OutOfRange)
     ∷ (leb bound (s .ticks), Exhausted)
     ∷ []
+tests m s audit = []
 
 abbrev pub turned-down : Meaning → Standing → Call → Option Denial
 turned-down m s call = first-of (tests m s call)
@@ -150,3 +151,4 @@ after s (ticked harvest loss intake figures) = record {
   serials = s .serials;
   ticks = s .ticks + 1;
 }
+after s (audited totals) = s

@@ -3,6 +3,7 @@
 --     counted b e       the books after the event e
 --     asked n e         the call that the event e answers, for a report array of n places
 --     verdict e         why that call was refused, if it was
+--     totals-in held b  the seven totals, by the books and what the store holds
 --     Answers s e m     what an accepted call answers, and what it leaves of the store
 --     Step s e s′       one call: s is the state before, e the call with its answer, s′ the state after
 use mathlib.Core.Path.{_≡_}
@@ -15,9 +16,10 @@ use Rattle.tables.specs.Taps.{Figures}
 use Rattle.tables.specs.Grants.{amount-of}
 use Rattle.tables.specs.declared.books.Books.{Books}
 use Rattle.node.specs.declared.denial.Denial.{Denial}
+use Rattle.node.specs.declared.totals.Totals.{Totals}
 use Rattle.node.specs.Standing.{Standing}
-use Rattle.node.specs.Calls.{Call, Event, open-reserve, close-reserve, open-tap, shut-tap, request, settle, park, recall, tick}
-use Rattle.node.specs.Calls.{refused, opened, closed, tapped, shut, granted, settled, parked, recalled, ticked}
+use Rattle.node.specs.Calls.{Call, Event, open-reserve, close-reserve, open-tap, shut-tap, request, settle, park, recall, tick, audit}
+use Rattle.node.specs.Calls.{refused, opened, closed, tapped, shut, granted, settled, parked, recalled, ticked, audited}
 use Rattle.node.specs.Rules.{turned-down, after, before-taps}
 
 pub record State : Type 0 where
@@ -57,6 +59,7 @@ counted b (ticked harvest loss intake figures) = record {
   granted = b .granted;
   settled = b .settled;
 }
+counted b (audited totals) = b
 
 abbrev pub asked : ℕ → Event → Call
 asked places (refused call why) = call
@@ -69,6 +72,7 @@ asked places (settled serial amount used lost) = settle serial amount used
 asked places (parked serial amount) = park serial amount
 asked places (recalled task serial amount) = recall task serial
 asked places (ticked harvest loss intake figures) = tick harvest places
+asked places (audited t) = audit
 
 abbrev pub verdict : Event → Option Denial
 verdict (refused call why) = Some why
@@ -81,6 +85,11 @@ verdict (settled serial amount used lost) = None
 verdict (parked serial amount) = None
 verdict (recalled task serial amount) = None
 verdict (ticked harvest loss intake figures) = None
+verdict (audited t) = None
+
+-- the seven totals that an audit answers
+abbrev pub totals-in : ℕ → Books → Totals
+totals-in held b = record { received = b .received; held = held; «open» = b .«open»; spent = b .spent; lost = b .lost; granted = b .granted; settled = b .settled }
 
 -- a grant draws its amount; a settlement charges the unused quanta, and what is not taken is lost;
 -- in a tick the store ticks, and then the harvest is charged; no other call touches the store
@@ -96,6 +105,7 @@ Answers s (parked serial amount) m = m ≡ s .store
 Answers s (recalled task serial amount) m = (amount ≡ amount-of serial (s .standing .grants)) × (m ≡ s .store)
 Answers s (ticked harvest loss intake figures) m =
     (mid : Meaning) × Ticked (s .store) loss mid × Charged harvest mid intake m × Figures (before-taps (s .standing) loss intake) (s .standing .taps) figures
+Answers s (audited t) m = (t ≡ totals-in (s .store .held) (s .books)) × (m ≡ s .store)
 
 -- a call is turned down just where the rules say so, and then leaves all as it was
 pub record Step (s : State) (e : Event) (s′ : State) : Type 0 where

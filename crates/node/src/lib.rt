@@ -2,6 +2,7 @@
 mod denial;
 mod node;
 mod slip;
+mod totals;
 
 pub use denial::Denial;
 pub use denial::DenialDebug;
@@ -15,3 +16,6 @@ pub use denial::OverdrawDisplay;
 pub use denial::OverdrawPartialEq;
 pub use node::Node;
 pub use slip::Slip;
+pub use totals::Totals;
+pub use totals::TotalsDebug;
+pub use totals::TotalsPartialEq;

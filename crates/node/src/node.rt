@@ -4,8 +4,9 @@ ghost use Prim.Native.Nat.{_-_};
 ghost use lib.ListN.{drop};
 ghost use Rattle.std.specs.Vec.{made, refused};
 ghost use Rattle.store.specs.Meaning.{Meaning};
-ghost use Rattle.node.specs.Calls.{settle as settlement, park as park-call};
+ghost use Rattle.node.specs.Calls.{settle as settlement, park as park-call, audited};
 ghost use Rattle.node.specs.Rules.{turned-down};
+ghost use Rattle.node.specs.Runs.{Lawful};
 ghost use Rattle.node.specs.Steps.{verdict};
 ghost use Rattle.node.specs.Node.{standing-of, Newborn, Extends, opening, closing, tapping, shutting};
 ghost use Rattle.node.specs.Node.{granting, settling, parking, recalling, ticking, Drawn-for};
@@ -13,6 +14,7 @@ use crate::denial::Denial;
 use crate::denial::DenialFromOverdraw;
 use crate::denial::Overdraw;
 use crate::slip::Slip;
+use crate::totals::Totals;
 use rates::G;
 use store::Store;
 use tables::Books;
@@ -236,5 +238,21 @@ impl<S: Store> Node<S> {
         self.ticks += 1;
         self.books.tick(harvest, loss, intake);
         Ok((loss, intake))
+    }
+
+    // The seven totals; nothing changes.
+    pub fn audit(&self) -> Totals
+        ensures step { λ r. ⌜ Extends (S·Store) (now (self .entry)) (audited r) (now (self .entry)) ⌝ }
+        ensures law { λ r. ⌜ Lawful (S·Store) (now (self .entry)) r ⌝ }
+    {
+        Totals {
+            received: self.books.received,
+            held: u64::from(self.store.held()),
+            open: self.books.open,
+            spent: self.books.spent,
+            lost: self.books.lost,
+            granted: self.books.granted,
+            settled: self.books.settled,
+        }
     }
 }

@@ -1,0 +1,73 @@
+-- The open grants: serials rise, no amount is 0, and what a grant or a settlement does to their sum.
+--     Ledger low high gs     the serials of gs rise from above low up to high, and each amount is at least 1
+use mathlib.Core.Path.{_≡_, refl, ap}
+use mathlib.Core.Bool.{Bool, true, false, cond, not}
+use mathlib.Core.List.{List, [], _∷_, _++_}
+use Prim.Native.Nat.{ℕ, _+_, _≤_, _<_}
+use native.Mathlib.Omega.{arith}
+use lib.Dec.{eqb}
+use Rattle.std.proofs.shelf.Tests.{and-parts, eqb-true, ne-eqb, false≢true}
+use Rattle.std.specs.declared.option.Option.the-variants.{Some}
+use Rattle.tables.specs.declared.grants.Grant.{Grant}
+use Rattle.tables.specs.Grants.{grant-of, out-with, fits-out, without, marked}
+use Rattle.node.specs.Law.{outstanding}
+
+abbrev pub Ledger : ℕ → ℕ → List Grant → Type 0
+Ledger low high [] = low ≤ high
+Ledger low high (g ∷ gs) = (low < g .serial) × (1 ≤ g .amount) × Ledger (g .serial) high gs
+
+pub ledger-wider : (low lower high : ℕ) (gs : List Grant) → lower ≤ low → Ledger low high gs → Ledger lower high gs
+ledger-wider low lower high [] w l = omega arith
+ledger-wider low lower high (g ∷ gs) w l = (omega (arith, l .0), l .1, l .2)
+
+pub ledger-granted : (low high : ℕ) (gs : List Grant) (g : Grant) → high < g .serial → 1 ≤ g .amount → Ledger low high gs → Ledger low (g .serial) (gs ++ (g ∷ []))
+ledger-granted low high [] g new some l = (omega arith, some, omega arith)
+ledger-granted low high (x ∷ gs) g new some l = (l .0, l .1, ledger-granted (x .serial) high gs g new some (l .2))
+
+-- a grant that a test keeps or drops, over a rest that is in order
+kept-or-dropped : (low high : ℕ) (b : Bool) (g : Grant) (rest : List Grant) → low < g .serial → 1 ≤ g .amount → Ledger (g .serial) high rest → Ledger low high (cond b rest (g ∷ rest))
+kept-or-dropped low high true g rest a s l = ledger-wider (g .serial) low high rest (omega arith) l
+kept-or-dropped low high false g rest a s l = (a, s, l)
+
+pub ledger-without : (low high serial : ℕ) (gs : List Grant) → Ledger low high gs → Ledger low high (without serial gs)
+ledger-without low high serial [] l = l
+ledger-without low high serial (g ∷ gs) l = kept-or-dropped low high (eqb (g .serial) serial) g (without serial gs) (l .0) (l .1) (ledger-without (g .serial) high serial gs (l .2))
+
+pub ledger-marked : (low high serial : ℕ) (p : Bool) (gs : List Grant) → Ledger low high gs → Ledger low high (marked p serial gs)
+ledger-marked low high serial p [] l = l
+ledger-marked low high serial p (g ∷ gs) l = (l .0, l .1, ledger-marked (g .serial) high serial p gs (l .2))
+
+pub outstanding-granted : (gs : List Grant) (g : Grant) → outstanding (gs ++ (g ∷ [])) ≡ outstanding gs + g .amount
+outstanding-granted [] g = omega arith
+outstanding-granted (x ∷ gs) g = omega (arith, outstanding-granted gs g)
+
+pub outstanding-marked : (p : Bool) (serial : ℕ) (gs : List Grant) → outstanding (marked p serial gs) ≡ outstanding gs
+outstanding-marked p serial [] = refl
+outstanding-marked p serial (g ∷ gs) = ap (λ x. g .amount + x) (outstanding-marked p serial gs)
+
+-- no grant has a serial that is not above low
+without-none : (low high serial : ℕ) (gs : List Grant) → serial ≤ low → Ledger low high gs → without serial gs ≡ gs
+without-none low high serial [] w l = refl
+without-none low high serial (g ∷ gs) w l =
+    let differs : eqb (g .serial) serial ≡ false = ne-eqb (g .serial) serial (λ e. omega (arith, l .0)) in
+    rw differs (ap (λ x. g ∷ x) (without-none (g .serial) high serial gs (omega (arith, l .0)) (l .2)))
+
+-- a settled grant takes its amount out of the sum
+pub outstanding-settled : (low high serial amount : ℕ) (gs : List Grant) → Ledger low high gs → fits-out serial amount gs ≡ true → outstanding (without serial gs) + amount ≡ outstanding gs
+outstanding-settled low high serial amount [] l f = absurd (false≢true f)
+outstanding-settled low high serial amount (g ∷ gs) l f = go (eqb (g .serial) serial) refl (outstanding-settled (g .serial) high serial amount gs (l .2)) f
+  where
+    go : (b : Bool) → eqb (g .serial) serial ≡ b
+        → (fits-out serial amount gs ≡ true → outstanding (without serial gs) + amount ≡ outstanding gs)
+        → out-with amount (cond b (Some g) (grant-of serial gs)) ≡ true
+        → outstanding (cond b (without serial gs) (g ∷ without serial gs)) + amount ≡ g .amount + outstanding gs
+    go true e later f =
+        let same : g .serial ≡ serial = eqb-true (g .serial) serial e in
+        let rest = without-none (g .serial) high serial gs (omega arith) (l .2) in
+        let amounts : g .amount ≡ amount = eqb-true (g .amount) amount (and-parts (eqb (g .amount) amount) (not (g .parked)) f .0) in
+        omega (arith, ap outstanding rest)
+    go false e later f = omega (arith, later f)
+
+pub outstanding-none : (low high : ℕ) (gs : List Grant) → Ledger low high gs → outstanding gs ≡ 0 → gs ≡ []
+outstanding-none low high [] l z = refl
+outstanding-none low high (g ∷ gs) l z = absurd (omega (arith, l .1))
