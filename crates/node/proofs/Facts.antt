@@ -95,7 +95,7 @@ Facts old s (ticked harvest loss intake figures) left = Ticking s harvest loss i
 Facts old s (audited t) left = left ≡ old
 
 -- no test turned the call down
-abbrev Cleared : List (Bool × Denial) → Type 0
+abbrev pub Cleared : List (Bool × Denial) → Type 0
 Cleared [] = Unit {0}
 Cleared (c ∷ cs) = (c .0 ≡ false) × Cleared cs
 
@@ -103,7 +103,7 @@ passed : (b : Bool) (why : Denial) (rest : Option Denial) → cond b (Some why) 
 passed true why rest e = absurd (none-some (sym e))
 passed false why rest e = (refl, e)
 
-cleared : (cs : List (Bool × Denial)) → first-of cs ≡ None → Cleared cs
+pub cleared : (cs : List (Bool × Denial)) → first-of cs ≡ None → Cleared cs
 cleared [] e = tt
 cleared (c ∷ cs) e = let p = passed (c .0) (c .1) (first-of cs) e in (p .0, cleared cs (p .1))
 

@@ -1,10 +1,10 @@
 -- A grant: the tables and the store together decide it.
 use mathlib.Core.Path.{_≡_, refl, sym, ap, subst, _∙_}
-use mathlib.Core.Bool.{Bool, true, false, cond}
+use mathlib.Core.Bool.{Bool, true, false, cond, _&&_}
 use mathlib.Core.List.{List, [], _∷_, _++_}
 use Prim.Native.Nat.{ℕ, _+_, _≤_, _<_, min}
 use native.Mathlib.Omega.{arith}
-use borrow.Author.Tests.{lt-ltb, le-ltb}
+use borrow.Author.Tests.{lt-ltb, le-ltb, eq-eqb}
 use lib.Dec.{ltb}
 use lib.ListN.{length}
 use Rattle.std.specs.declared.option.Option.{Option}
@@ -15,7 +15,9 @@ use Rattle.store.specs.Meaning.{Meaning, Sound, top, fault-from, Drawn}
 use Rattle.tables.specs.declared.grants.Grant.{Grant}
 use Rattle.tables.specs.declared.books.Books.{Books}
 use Rattle.tables.specs.Reserves.{Reserve-rows, lower}
-use Rattle.tables.specs.Grants.{added}
+use Rattle.std.proofs.shelf.Tests.{leb-false}
+use Rattle.tables.specs.Grants.{added, out-with, fits-out}
+use Rattle.tables.proofs.GrantLaws.{grant-of-added}
 use Rattle.tables.specs.Books.{count-grant}
 use Rattle.node.specs.declared.denial.Denial.{Denial}
 use Rattle.node.specs.declared.denial.Denial.the-variants.{StoreRefused}
@@ -26,7 +28,7 @@ use Rattle.node.specs.Rules.{first-of, request-tests, turned-down}
 use Rattle.node.specs.Steps.{State, Step}
 use Rattle.node.specs.Sound.{Whole}
 use Rattle.node.proofs.Places.{none-some}
-use Rattle.node.proofs.Facts.{facts}
+use Rattle.node.proofs.Facts.{cleared, facts}
 use Rattle.node.proofs.Counting.{granted-exact}
 
 -- a test that holds decides, whatever is tested after it
@@ -84,3 +86,11 @@ module _ (m : Meaning) (s : Standing) (task reserve amount : ℕ) where
             ∙ ap (λ x. record { reserves = lower (s .reserves) reserve amount; taps = s .taps; grants = s .grants ++ g ∷ []; serials = x; ticks = s .ticks }) counts;
         books = books ∙ granted-exact s b (w .few) (w .well .serials) (w .well .ticks) task reserve amount serial (f .most);
       }
+
+-- the slip that is answered is out
+pub granted-out : (s : Standing) (task reserve amount serial : ℕ) (gs : List Grant) → first-of (request-tests s task reserve amount) ≡ None → gs ≡ added (record { serial = serial; amount = amount; reserve = reserve; parked = false }) (s .grants) → fits-out serial amount gs ≡ true
+granted-out s task reserve amount serial gs clear adds =
+    let g : Grant = record { serial = serial; amount = amount; reserve = reserve; parked = false } in
+    let few : length (s .grants) < 64 = leb-false 64 (length (s .grants)) (cleared (request-tests s task reserve amount) clear .1 .1 .1 .0) in
+    let more : gs ≡ s .grants ++ g ∷ [] = adds ∙ ap (λ x. cond x (s .grants ++ g ∷ []) (s .grants)) (lt-ltb (length (s .grants)) 64 few) in
+    ap (fits-out serial amount) more ∙ ap (out-with amount) (grant-of-added (s .grants) g) ∙ ap (λ b. b && true) (eq-eqb amount amount refl)

@@ -1,15 +1,16 @@
 -- The open grants: serials rise, no amount is 0, and what a grant or a settlement does to their sum.
 --     Ledger low high gs     the serials of gs rise from above low up to high, and each amount is at least 1
-use mathlib.Core.Path.{_≡_, refl, ap}
+use mathlib.Core.Path.{_≡_, refl, sym, ap, _∙_}
 use mathlib.Core.Bool.{Bool, true, false, cond, not}
 use mathlib.Core.List.{List, [], _∷_, _++_}
 use Prim.Native.Nat.{ℕ, _+_, _≤_, _<_}
 use native.Mathlib.Omega.{arith}
 use lib.Dec.{eqb}
 use Rattle.std.proofs.shelf.Tests.{and-parts, eqb-true, ne-eqb, false≢true}
-use Rattle.std.specs.declared.option.Option.the-variants.{Some}
+use Rattle.std.specs.declared.option.Option.{Option}
+use Rattle.std.specs.declared.option.Option.the-variants.{None, Some}
 use Rattle.tables.specs.declared.grants.Grant.{Grant}
-use Rattle.tables.specs.Grants.{grant-of, out-with, fits-out, without, marked}
+use Rattle.tables.specs.Grants.{or-else, grant-of, out-with, fits-out, without, marked}
 use Rattle.node.specs.Law.{outstanding}
 
 abbrev pub Ledger : ℕ → ℕ → List Grant → Type 0
@@ -52,6 +53,16 @@ without-none low high serial (g ∷ gs) w l =
     let differs : eqb (g .serial) serial ≡ false = ne-eqb (g .serial) serial (λ e. omega (arith, l .0)) in
     rw differs (ap (λ x. g ∷ x) (without-none (g .serial) high serial gs (omega (arith, l .0)) (l .2)))
 
+grant-none : (low high serial : ℕ) (gs : List Grant) → serial ≤ low → Ledger low high gs → grant-of serial gs ≡ None
+grant-none low high serial [] w l = refl
+grant-none low high serial (g ∷ gs) w l =
+    ap (λ o. or-else o (cond (eqb (g .serial) serial) (Some g) None)) (grant-none (g .serial) high serial gs (omega (arith, l .0)) (l .2))
+    ∙ ap (λ b. cond b (Some g) None) (ne-eqb (g .serial) serial (λ e. omega (arith, l .0)))
+
+or-nothing : (o : Option Grant) → or-else o None ≡ o
+or-nothing None = refl
+or-nothing (Some g) = refl
+
 -- a settled grant takes its amount out of the sum
 pub outstanding-settled : (low high serial amount : ℕ) (gs : List Grant) → Ledger low high gs → fits-out serial amount gs ≡ true → outstanding (without serial gs) + amount ≡ outstanding gs
 outstanding-settled low high serial amount [] l f = absurd (false≢true f)
@@ -59,14 +70,16 @@ outstanding-settled low high serial amount (g ∷ gs) l f = go (eqb (g .serial) 
   where
     go : (b : Bool) → eqb (g .serial) serial ≡ b
         → (fits-out serial amount gs ≡ true → outstanding (without serial gs) + amount ≡ outstanding gs)
-        → out-with amount (cond b (Some g) (grant-of serial gs)) ≡ true
+        → out-with amount (or-else (grant-of serial gs) (cond b (Some g) None)) ≡ true
         → outstanding (cond b (without serial gs) (g ∷ without serial gs)) + amount ≡ g .amount + outstanding gs
     go true e later f =
         let same : g .serial ≡ serial = eqb-true (g .serial) serial e in
+        let none = grant-none (g .serial) high serial gs (omega arith) (l .2) in
         let rest = without-none (g .serial) high serial gs (omega arith) (l .2) in
-        let amounts : g .amount ≡ amount = eqb-true (g .amount) amount (and-parts (eqb (g .amount) amount) (not (g .parked)) f .0) in
+        let fits : out-with amount (Some g) ≡ true = sym (ap (λ o. out-with amount (or-else o (Some g))) none) ∙ f in
+        let amounts : g .amount ≡ amount = eqb-true (g .amount) amount (and-parts (eqb (g .amount) amount) (not (g .parked)) fits .0) in
         omega (arith, ap outstanding rest)
-    go false e later f = omega (arith, later f)
+    go false e later f = omega (arith, later (sym (ap (out-with amount) (or-nothing (grant-of serial gs))) ∙ f))
 
 pub outstanding-none : (low high : ℕ) (gs : List Grant) → Ledger low high gs → outstanding gs ≡ 0 → gs ≡ []
 outstanding-none low high [] l z = refl

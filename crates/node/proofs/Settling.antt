@@ -1,17 +1,19 @@
 -- A settlement: what the store takes back always fits the reserve and the root.
 use mathlib.Core.Path.{_≡_, refl, sym, ap, _∙_}
-use mathlib.Core.Bool.{Bool, true, false, cond, not}
+use mathlib.Core.Bool.{Bool, true, false, cond, not, _&&_}
 use mathlib.Core.List.{List, [], _∷_}
 use Prim.Native.Nat.{ℕ, _+_, _-_, _≤_, _<_}
 use native.Mathlib.Omega.{arith}
-use borrow.Author.Tests.{le-ltb}
-use lib.Dec.{ltb}
+use borrow.Author.Tests.{le-ltb, eq-eqb}
+use lib.Dec.{ltb, eqb}
 use Rattle.std.specs.declared.option.Option.the-variants.{None, Some}
 use Rattle.store.specs.Meaning.{Meaning, Sound, Charged}
 use Rattle.tables.specs.declared.grants.Grant.{Grant}
 use Rattle.tables.specs.declared.books.Books.{Books}
 use Rattle.tables.specs.Reserves.{Reserve-rows, fill-up, return-to}
-use Rattle.tables.specs.Grants.{grant-of, reserve-in, reserve-of, fits-out, without}
+use Rattle.tables.specs.declared.grants.Grants.{Grants}
+use Rattle.tables.specs.Grants.{open-in, grant-of, reserve-in, reserve-of, out-with, fits-out, without, marked, remarked}
+use Rattle.tables.proofs.GrantLaws.{grant-of-serial, grant-of-marked}
 use Rattle.tables.specs.Books.{count-settled}
 use Rattle.node.specs.declared.denial.Denial.the-variants.{NoSuchGrant, Overused}
 use Rattle.node.specs.Standing.{Standing}
@@ -51,3 +53,10 @@ settle-step m m′ s b b′ serial amount used back lost g rs gs serials sound w
           ∙ ap (λ x. record { reserves = return-to (s .reserves) (reserve-of serial (s .grants)) (amount - used - lost); taps = s .taps; grants = without serial (s .grants); serials = x; ticks = s .ticks }) same;
       books = books ∙ settled-exact s b (w .few) (w .well .serials) (w .well .ticks) serial amount used lost (known .1) (omega (arith, known .1, le)) (omega (arith, known .1, lost-is));
     }
+
+-- a slip that was recalled is out
+pub recalled-out : (t : Grants) (serial : ℕ) (g : Grant) (gs : List Grant) → grant-of serial (open-in t) ≡ Some g → gs ≡ marked false serial (open-in t) → fits-out serial (g .amount) gs ≡ true
+recalled-out t serial g gs found marks =
+    let same : g .serial ≡ serial = grant-of-serial serial (open-in t) g found in
+    ap (fits-out serial (g .amount)) marks ∙ ap (out-with (g .amount)) (grant-of-marked false serial (open-in t) ∙ ap (remarked false serial) found)
+    ∙ ap (λ b. b && not (cond (eqb (g .serial) serial) false (g .parked))) (eq-eqb (g .amount) (g .amount) refl) ∙ ap (λ b. not (cond b false (g .parked))) (eq-eqb (g .serial) serial same)

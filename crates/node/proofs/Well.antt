@@ -19,7 +19,7 @@ use Rattle.tables.specs.declared.grants.Grant.{Grant}
 use Rattle.tables.specs.Rows.{is-open, present, any, each}
 use Rattle.tables.specs.Reserves.{Reserve-rows, level-in, level-at, limit-in, parent-in, parent-of, give, lower, return-to, charge-loss, parent-is, is-parent}
 use Rattle.tables.specs.Taps.{Tap-rows, stepped, ends-at, figure-of, moved, after-moves, Figures}
-use Rattle.tables.specs.Grants.{grant-of, reserve-in, reserve-of, out-with, fits-out, of-reserve, without, marked}
+use Rattle.tables.specs.Grants.{or-else, grant-of, reserve-in, reserve-of, out-with, fits-out, of-reserve, without, marked}
 use Rattle.node.specs.Standing.{Standing, born}
 use Rattle.node.specs.Calls.{Event, refused, opened, closed, tapped, shut, granted, settled, parked, recalled, ticked, audited}
 use Rattle.node.specs.Rules.{after, before-taps}
@@ -185,12 +185,14 @@ length-without serial (g ∷ gs) = omega (arith, length-cond (eqb (g .serial) se
 -- a grant that is there goes
 pub length-settled : (serial amount : ℕ) (gs : List Grant) → fits-out serial amount gs ≡ true → length (without serial gs) < length gs
 length-settled serial amount [] f = absurd (false≢true f)
-length-settled serial amount (g ∷ gs) f = go (eqb (g .serial) serial) (length-settled serial amount gs) f
+length-settled serial amount (g ∷ gs) f = go (grant-of serial gs) (length-settled serial amount gs) (eqb (g .serial) serial) f
   where
-    go : (b : Bool) → (fits-out serial amount gs ≡ true → length (without serial gs) < length gs)
-        → out-with amount (cond b (Some g) (grant-of serial gs)) ≡ true → length (cond b (without serial gs) (g ∷ without serial gs)) < suc (length gs)
-    go true later f = omega (arith, length-without serial gs)
-    go false later f = omega (arith, later f)
+    go : (o : Option Grant) → (out-with amount o ≡ true → length (without serial gs) < length gs) → (b : Bool)
+        → out-with amount (or-else o (cond b (Some g) None)) ≡ true → length (cond b (without serial gs) (g ∷ without serial gs)) < suc (length gs)
+    go (Some x) later true f = omega (arith, later f)
+    go (Some x) later false f = omega (arith, later f)
+    go None later true f = omega (arith, length-without serial gs)
+    go None later false f = absurd (false≢true f)
 
 pub length-marked : (p : Bool) (serial : ℕ) (gs : List Grant) → length (marked p serial gs) ≡ length gs
 length-marked p serial [] = refl
@@ -199,13 +201,14 @@ length-marked p serial (g ∷ gs) = ap suc (length-marked p serial gs)
 -- the reserve of a grant that is out is open, and its amount is at most G
 pub grant-well : (rs : Reserve-rows) (serial amount : ℕ) (gs : List Grant) → fits-out serial amount gs ≡ true → Grants-well rs gs → (present rs (reserve-of serial gs) ≡ true) × (amount ≤ bound)
 grant-well rs serial amount [] f w = absurd (false≢true f)
-grant-well rs serial amount (g ∷ gs) f w = go (eqb (g .serial) serial) (grant-well rs serial amount gs) f
+grant-well rs serial amount (g ∷ gs) f w = go (grant-of serial gs) (λ later. grant-well rs serial amount gs later (w .2)) (eqb (g .serial) serial) f
   where
-    go : (b : Bool) → (fits-out serial amount gs ≡ true → Grants-well rs gs → (present rs (reserve-of serial gs) ≡ true) × (amount ≤ bound))
-        → out-with amount (cond b (Some g) (grant-of serial gs)) ≡ true
-        → (present rs (reserve-in (cond b (Some g) (grant-of serial gs))) ≡ true) × (amount ≤ bound)
-    go true later f = (w .0, subst (λ q. q ≤ bound) (eqb-true (g .amount) amount (and-parts _ _ f .0)) (w .1))
-    go false later f = later f (w .2)
+    go : (o : Option Grant) → (out-with amount o ≡ true → (present rs (reserve-in o) ≡ true) × (amount ≤ bound)) → (b : Bool)
+        → out-with amount (or-else o (cond b (Some g) None)) ≡ true
+        → (present rs (reserve-in (or-else o (cond b (Some g) None))) ≡ true) × (amount ≤ bound)
+    go (Some x) later b f = later f
+    go None later true f = (w .0, subst (λ q. q ≤ bound) (eqb-true (g .amount) amount (and-parts _ _ f .0)) (w .1))
+    go None later false f = absurd (false≢true f)
 
 -- levels
 

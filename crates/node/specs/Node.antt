@@ -1,5 +1,6 @@
 -- A node over any store, whose members are G. Assumes nothing.
 --     standing-of n          where the node n stands, by its tables
+--     Is-out slip n          the slip's grant is one of n's, and out
 --     state G n              its state: the store's meaning, where it stands, and its books
 --     Sound-node G n         its store is sound, and its state is whole
 --     Extends G n e m        from a sound node n, the event e leads to m, which is sound
@@ -9,6 +10,7 @@
 --     opening, closing, tapping, shutting, granting, settling, parking, recalling, ticking
 --                            the event of each call, by its arguments and its answer
 use mathlib.Core.Path.{_≡_}
+use mathlib.Core.Bool.{true}
 use mathlib.Core.List.{List}
 use Prim.Native.Nat.{ℕ}
 use lib.ListN.{length, take}
@@ -18,7 +20,7 @@ use Rattle.std.specs.declared.result.Result.{Result}
 use Rattle.std.specs.declared.result.Result.the-variants.{Ok, Err}
 use Rattle.store.specs.declared.store.Store.{Ghosts}
 use Rattle.store.specs.Meaning.{Meaning, meaning, Drawn}
-use Rattle.tables.specs.Grants.{open-in}
+use Rattle.tables.specs.Grants.{open-in, fits-out}
 use Rattle.tables.specs.Books.{first-books}
 use Rattle.node.specs.declared.denial.Denial.{Denial}
 use Rattle.node.specs.declared.denial.Overdraw.{Overdraw}
@@ -36,6 +38,10 @@ refusal-of (Err d) = Some d
 
 abbrev pub standing-of : {S : Type 0} → Node S → Standing
 standing-of n = record { reserves = n .reserves .rows; taps = n .taps .rows; grants = open-in (n .grants); serials = n .grants .serials; ticks = n .ticks }
+
+-- so that it can be settled or parked
+abbrev pub Is-out : {S : Type 0} → Slip → Node S → Type 0
+Is-out slip n = fits-out (slip .serial) (slip .amount) (open-in (n .grants)) ≡ true
 
 module _ {S : Type 0} (G : Ghosts S) where
   abbrev pub store-means : Node S → Meaning

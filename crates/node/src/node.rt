@@ -8,7 +8,7 @@ ghost use Rattle.node.specs.Calls.{settle as settlement, park as park-call, au
 ghost use Rattle.node.specs.Rules.{turned-down};
 ghost use Rattle.node.specs.Runs.{Lawful};
 ghost use Rattle.node.specs.Steps.{verdict};
-ghost use Rattle.node.specs.Node.{standing-of, Newborn, Extends, opening, closing, tapping, shutting};
+ghost use Rattle.node.specs.Node.{standing-of, Is-out, Newborn, Extends, opening, closing, tapping, shutting};
 ghost use Rattle.node.specs.Node.{granting, settling, parking, recalling, ticking, Drawn-for};
 use crate::denial::Denial;
 use crate::denial::DenialFromOverdraw;
@@ -151,7 +151,7 @@ impl<S: Store> Node<S> {
     pub fn grant(&mut self, task: u8, reserve: u8, amount: u32) -> Result<Slip, Denial>
         ensures step { λ r. ⌜ Extends (S·Store) (now (self .entry)) (granting task reserve amount r) (now (self .exit)) ⌝ }
         ensures same { λ r. ⌜ refused r (λ _. now (self .exit) ≡ now (self .entry)) ⌝ }
-        ensures amount { λ r. ⌜ made r (λ slip. slip .amount ≡ amount) ⌝ }
+        ensures slip { λ r. ⌜ made r (λ slip. (slip .amount ≡ amount) × Is-out slip (now (self .exit))) ⌝ }
     {
         self.may_request(task, reserve, amount)?;
         draw(&mut self.store, task, reserve, amount)?;
@@ -202,7 +202,7 @@ impl<S: Store> Node<S> {
     pub fn recall(&mut self, task: u8, serial: u32) -> Result<Slip, Denial>
         ensures step { λ r. ⌜ Extends (S·Store) (now (self .entry)) (recalling task serial r) (now (self .exit)) ⌝ }
         ensures same { λ r. ⌜ refused r (λ _. now (self .exit) ≡ now (self .entry)) ⌝ }
-        ensures serial { λ r. ⌜ made r (λ slip. slip .serial ≡ serial) ⌝ }
+        ensures slip { λ r. ⌜ made r (λ slip. (slip .serial ≡ serial) × Is-out slip (now (self .exit))) ⌝ }
     {
         let grant = self.may_recall(task, serial)?;
         self.grants.mark(serial, false);

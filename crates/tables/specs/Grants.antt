@@ -21,9 +21,14 @@ use Rattle.tables.specs.declared.grants.Grants.{Grants}
 abbrev pub open-in : Grants → List Grant
 open-in t = take (t .count) (t .rows)
 
+abbrev pub or-else : Option Grant → Option Grant → Option Grant
+or-else (Some g) o = Some g
+or-else None o = o
+
+-- no two open grants of a node have one serial; were there two, this would be the newer
 abbrev pub grant-of : ℕ → List Grant → Option Grant
 grant-of serial [] = None
-grant-of serial (g ∷ gs) = cond (eqb (g .serial) serial) (Some g) (grant-of serial gs)
+grant-of serial (g ∷ gs) = or-else (grant-of serial gs) (cond (eqb (g .serial) serial) (Some g) None)
 
 abbrev pub reserve-in : Option Grant → ℕ
 reserve-in None = 0
@@ -69,3 +74,7 @@ mark p serial g = record { serial = g .serial; amount = g .amount; reserve = g .
 abbrev pub marked : Bool → ℕ → List Grant → List Grant
 marked p serial [] = []
 marked p serial (g ∷ gs) = mark p serial g ∷ marked p serial gs
+
+abbrev pub remarked : Bool → ℕ → Option Grant → Option Grant
+remarked p serial None = None
+remarked p serial (Some g) = Some (mark p serial g)

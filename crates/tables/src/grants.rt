@@ -80,13 +80,15 @@ impl Grants {
         self.serials
     }
 
+    // The newest is looked at first.
     pub fn find(&self, serial: u32) -> Option<Grant>
         ensures result { λ r. ⌜ r ≡ grant-of serial (open-in (now (self .entry))) ⌝ }
     {
         let grants = self.listed();
-        for grant in grants {
+        for i in (0..grants.len()).rev() {
+            let grant = grants[i];
             if grant.serial == serial {
-                return Some(*grant);
+                return Some(grant);
             }
         }
         None

@@ -4,7 +4,7 @@ use Rattle.node.specs.declared.denial.Denial.the-variants.{StoreRefused}
 use Rattle.node.specs.Calls.{refused, request, granted}
 use Rattle.node.specs.Node.{standing-of, store-means, Extends}
 use Rattle.node.proofs.Goes.{turned-away, goes}
-use Rattle.node.proofs.Granting.{request-refused, store-refused, grant-step}
+use Rattle.node.proofs.Granting.{request-refused, store-refused, grant-step, granted-out}
 use Rattle.node.proofs.node.Node.grant.Needs as need
 
 pub returns-in-Break-may-request : need.returns-in-Break-may-request
@@ -15,7 +15,7 @@ returns-in-Break-may-request g c =
           (request-refused (store-means (g .S·Store) (c .args .self .now)) (standing-of (c .args .self .now)) (c .args .task) (c .args .reserve) (c .args .amount) _
           (sym (c .in-Break-may-request .ensures tt .judged)));
       same = refl;
-      amount = tt;
+      slip = tt;
     })
 
 pub returns-in-Break-draw : need.returns-in-Break-draw
@@ -30,7 +30,7 @@ returns-in-Break-draw g c =
           (store-refused (store-means (g .S·Store) (c .args .self .now)) (standing-of (c .args .self .now)) (c .args .task) (c .args .reserve) (c .args .amount) (c .in-Break-draw .field-0 .0) _
           (sym (c .in-Continue-may-request .ensures tt .judged)) (drawn .0) (drawn .1) (drawn .2 (s .store)))) s;
       same = same;
-      amount = tt;
+      slip = tt;
     })
 
 pub returns : need.returns
@@ -42,5 +42,5 @@ returns g c = record {
       (g .S·Store·met .means (c .args .self .now .store) (s .store)) (s .whole) (sym (c .in-Continue-may-request .ensures tt .judged)) (drawn .1)
       (c .lower .ensures .after) (c .add-serial .ensures .result) (c .add-serial .ensures .after) (c .add-serial .ensures .serials) (c .grant .ensures .after));
   same = tt;
-  amount = refl;
+  slip = (refl, granted-out (standing-of (c .args .self .now)) (c .args .task) (c .args .reserve) (c .args .amount) (c .add-serial .result) _ (sym (c .in-Continue-may-request .ensures tt .judged)) (c .add-serial .ensures .after));
 }

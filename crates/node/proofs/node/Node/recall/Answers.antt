@@ -5,6 +5,7 @@ use Rattle.tables.specs.Grants.{marked, open-in, amount-in}
 use Rattle.node.specs.Calls.{recall, recalled}
 use Rattle.node.specs.Node.{store-means}
 use Rattle.node.proofs.Goes.{turned-away, goes}
+use Rattle.node.proofs.Settling.{recalled-out}
 use Rattle.node.proofs.node.Node.recall.Needs as need
 
 pub returns-in-Break-grant : need.returns-in-Break-grant
@@ -14,7 +15,7 @@ returns-in-Break-grant g c =
       step = turned-away (g .S·Store) (c .args .self .now) (recall (c .args .task) (c .args .serial)) _
           (sym (c .in-Break-grant .ensures tt .judged (store-means (g .S·Store) (c .args .self .now))));
       same = refl;
-      serial = tt;
+      slip = tt;
     })
 
 pub returns : need.returns
@@ -30,5 +31,5 @@ returns g c = record {
         books = refl;
       });
   same = tt;
-  serial = refl;
+  slip = (refl, recalled-out (c .args .self .now .grants) (c .args .serial) (c .in-Continue-grant .grant) _ (c .in-Continue-grant .ensures tt .found) (c .mark .ensures .after));
 }
