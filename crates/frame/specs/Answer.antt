@@ -13,12 +13,14 @@ use Rattle.node.specs.Denial.{be4}
 use Rattle.frame.specs.Digits.{written, over-front}
 use Rattle.frame.specs.Fault.{number-of, values-of}
 use Rattle.frame.specs.declared.answer.Answer.{Answer}
-use Rattle.frame.specs.declared.answer.Answer.the-variants.{Done, Ticked, Refused}
+use Rattle.frame.specs.declared.answer.Answer.the-variants.{Done, Granted, Settled, Ticked, Refused}
 use Rattle.frame.specs.declared.fault.FrameFault.{FrameFault}
 use Rattle.frame.specs.declared.fault.FrameFault.the-variants.{ShortAnswer}
 
 abbrev pub answer-bytes : Answer → List ℕ
 answer-bytes Done = 0 ∷ []
+answer-bytes (Granted serial) = (0 ∷ []) ++ be4 serial
+answer-bytes (Settled lost) = (0 ∷ []) ++ be4 lost
 answer-bytes (Ticked loss intake) = (0 ∷ []) ++ be4 loss ++ be4 intake
 answer-bytes (Refused f) = number-of f ∷ values-of f
 

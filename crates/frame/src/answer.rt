@@ -16,6 +16,10 @@ const ROOM: usize = 160;
 pub enum Answer {
     // Accepted, with nothing to tell.
     Done,
+    // An accepted grant, with the serial of its slip.
+    Granted { serial: u32 },
+    // A settled grant, with the quanta lost.
+    Settled { lost: u32 },
     // An accepted tick.
     Ticked { loss: u32, intake: u32 },
     // Refused, with the reason.
@@ -65,6 +69,16 @@ fn answer_bytes(answer: &Answer) -> Bytes
 {
     match answer {
         Answer::Done => Bytes::one(0),
+        Answer::Granted { serial } => {
+            let mut bytes = Bytes::one(0);
+            bytes.extend(&serial.to_be_bytes());
+            bytes
+        }
+        Answer::Settled { lost } => {
+            let mut bytes = Bytes::one(0);
+            bytes.extend(&lost.to_be_bytes());
+            bytes
+        }
         Answer::Ticked { loss, intake } => {
             let mut bytes = Bytes::one(0);
             bytes.extend(&loss.to_be_bytes());
