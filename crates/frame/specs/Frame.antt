@@ -14,7 +14,7 @@ use Rattle.std.specs.declared.result.Result.the-variants.{Ok, Err}
 use Rattle.frame.specs.declared.fault.FrameFault.{FrameFault}
 use Rattle.frame.specs.declared.fault.FrameFault.the-variants.{UnknownFrame}
 use Rattle.frame.specs.declared.frame.Frame.{Frame}
-use Rattle.frame.specs.declared.frame.Frame.the-variants.{Capacitor, Layered, Bank, Open, Close, Tap, Shut, Grant, Settle, Tick}
+use Rattle.frame.specs.declared.frame.Frame.the-variants.{Capacitor, Layered, Bank, Open, Close, Tap, Shut, Grant, Settle, Tick, Audit}
 
 abbrev pub two : List ℕ → ℕ → ℕ
 two fs i = getD fs i 0 * 256 + getD fs (i + 1) 0
@@ -53,6 +53,10 @@ settle-of fs = sized fs 9 (Settle (getD fs 0 0) (four fs 1) (four fs 5))
 abbrev pub tick-of : List ℕ → Result Frame FrameFault
 tick-of fs = sized fs 4 (Tick (four fs 0))
 
+-- no field
+abbrev pub audit-of : List ℕ → Result Frame FrameFault
+audit-of fs = sized fs 0 Audit
+
 -- capacity
 abbrev pub capacitor-of : List ℕ → Result Frame FrameFault
 capacitor-of fs = sized fs 4 (Capacitor (four fs 0))
@@ -75,7 +79,8 @@ frame-of (k ∷ fs) =
     (cond (eqb k 6) (grant-of fs)
     (cond (eqb k 7) (settle-of fs)
     (cond (eqb k 8) (tick-of fs)
+    (cond (eqb k 9) (audit-of fs)
     (cond (eqb k 16) (capacitor-of fs)
     (cond (eqb k 17) (layered-of fs)
     (cond (eqb k 18) (bank-of fs)
-    (Err UnknownFrame))))))))))
+    (Err UnknownFrame)))))))))))

@@ -2,13 +2,14 @@
 ghost use mathlib.Core.Path.{_≡_};
 ghost use mathlib.Core.List.{_∷_};
 ghost use Rattle.node.specs.Denial.{number-of as denial-number, values-of as denial-values};
-ghost use Rattle.frame.specs.Answer.{answer-bytes, answered, after-answer};
+ghost use Rattle.frame.specs.Answer.{total-bytes, answer-bytes, answered, after-answer};
 ghost use Rattle.frame.specs.Bytes.{content};
 ghost use Rattle.frame.specs.Fault.{number-of, values-of};
 use crate::bytes::Bytes;
 use crate::digits::encode;
 use crate::fault::FrameFault;
 use node::Denial;
+use node::Totals;
 
 const ROOM: usize = 160;
 
@@ -22,6 +23,8 @@ pub enum Answer {
     Settled { lost: u32 },
     // An accepted tick.
     Ticked { loss: u32, intake: u32 },
+    // The totals of an audit.
+    Audited(Totals),
     // Refused, with the reason.
     Refused(FrameFault),
 }
@@ -63,6 +66,21 @@ fn refused(fault: FrameFault) -> Bytes
     }
 }
 
+// The bytes of an audit's answer: 0 and the seven totals.
+fn audited(totals: &Totals) -> Bytes
+    ensures result { λ r. ⌜ content r ≡ total-bytes (now (totals .entry)) ⌝ }
+{
+    let mut bytes = Bytes::one(0);
+    bytes.extend_total(totals.received);
+    bytes.extend_total(totals.held);
+    bytes.extend_total(totals.open);
+    bytes.extend_total(totals.spent);
+    bytes.extend_total(totals.lost);
+    bytes.extend_total(totals.granted);
+    bytes.extend_total(totals.settled);
+    bytes
+}
+
 // The bytes of an answer: 0 and what is told, or those of the refusal.
 fn answer_bytes(answer: &Answer) -> Bytes
     ensures result { λ r. ⌜ content r ≡ answer-bytes (now (answer .entry)) ⌝ }
@@ -85,6 +103,7 @@ fn answer_bytes(answer: &Answer) -> Bytes
             bytes.extend(&intake.to_be_bytes());
             bytes
         }
+        Answer::Audited(totals) => audited(totals),
         Answer::Refused(fault) => refused(*fault),
     }
 }

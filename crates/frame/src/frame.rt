@@ -1,6 +1,6 @@
 // The frames: a first byte that names the kind, then that kind's fields and nothing more.
 ghost use mathlib.Core.Path.{_≡_};
-ghost use Rattle.frame.specs.Frame.{frame-of, open-of, close-of, tap-of, shut-of, grant-of, settle-of, tick-of, capacitor-of, layered-of, bank-of};
+ghost use Rattle.frame.specs.Frame.{frame-of, open-of, close-of, tap-of, shut-of, grant-of, settle-of, tick-of, audit-of, capacitor-of, layered-of, bank-of};
 use crate::fault::FrameFault;
 
 #[derive(Clone, Copy)]
@@ -63,6 +63,8 @@ pub enum Frame {
     Tick {
         harvest: u32,
     },
+    // The seven totals of the node that stands.
+    Audit,
 }
 
 fn capacitor(fields: &[u8]) -> Result<Frame, FrameFault>
@@ -197,6 +199,15 @@ fn tick(fields: &[u8]) -> Result<Frame, FrameFault>
     }
 }
 
+fn audit(fields: &[u8]) -> Result<Frame, FrameFault>
+    ensures result { λ r. ⌜ r ≡ audit-of (now (fields .entry)) ⌝ }
+{
+    match fields {
+        [] => Ok(Frame::Audit),
+        _ => Err(FrameFault::UnknownFrame),
+    }
+}
+
 impl Frame {
     // The frame of a line's bytes.
     pub fn from_bytes(bytes: &[u8]) -> Result<Frame, FrameFault>
@@ -210,6 +221,7 @@ impl Frame {
             [0x06, fields @ ..] => grant(fields),
             [0x07, fields @ ..] => settle(fields),
             [0x08, fields @ ..] => tick(fields),
+            [0x09, fields @ ..] => audit(fields),
             [0x10, fields @ ..] => capacitor(fields),
             [0x11, fields @ ..] => layered(fields),
             [0x12, fields @ ..] => bank(fields),

@@ -3,6 +3,7 @@ ghost use mathlib.Core.Path.{_≡_};
 ghost use mathlib.Core.List.{[], _∷_, _++_};
 ghost use Prim.Native.Nat.{_+_, _≤_};
 ghost use lib.ListN.{length};
+ghost use Rattle.frame.specs.Answer.{be8};
 ghost use Rattle.frame.specs.Bytes.{content};
 use super::Bytes;
 
@@ -49,6 +50,15 @@ impl Bytes {
         for b in more {
             self.push(*b);
         }
+    }
+
+    // The eight bytes of a total more, where there is room for them.
+    pub(crate) fn extend_total(&mut self, total: u64)
+        requires { ⌜ now self .len + 8 ≤ 57 ⌝ }
+        ensures after { λ _. ⌜ content (now (self .exit)) ≡ content (now (self .entry)) ++ be8 total ⌝ }
+        ensures len { λ _. ⌜ now (self .exit) .len ≡ now (self .entry) .len + 8 ⌝ }
+    {
+        self.extend(&total.to_be_bytes());
     }
 
     pub fn as_slice(&self) -> &[u8]
