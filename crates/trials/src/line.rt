@@ -13,6 +13,7 @@ const ROOM: usize = 160;
 
 const BUILD: &[u8] = b"1000000064";
 
+// The answer to one line.
 fn bytes(
     tally: &mut Tally<'_>,
     simulator: &mut Simulator,
@@ -25,93 +26,128 @@ fn bytes(
     tally.hold(what, expected, Written(&out[0..len]))
 }
 
-fn text(
-    tally: &mut Tally<'_>,
-    simulator: &mut Simulator,
-    line: &str,
-    expected: &str,
-) -> Result<(), Failure> {
-    bytes(tally, simulator, line, line.as_bytes(), expected)
+// Lines to one simulator, each with its answer.
+fn session(tally: &mut Tally<'_>, lines: &[(&str, &str)]) -> Result<(), Failure> {
+    let mut simulator = Simulator::new();
+    for (line, expected) in lines {
+        bytes(tally, &mut simulator, line, line.as_bytes(), expected)?;
+    }
+    Ok(())
 }
 
 fn capacitor(tally: &mut Tally<'_>) -> Result<(), Failure> {
-    let mut s = Simulator::new();
-    text(tally, &mut s, "0800000001", "04\\n")?;
-    text(tally, &mut s, "083B9ACA01", "04\\n")?;
-    text(tally, &mut s, "103B9ACA01", "05\\n")?;
-    text(tally, &mut s, "0800000001", "04\\n")?;
-    text(tally, &mut s, "103B9ACA00", "00\\n")?;
-    text(tally, &mut s, "10FFFFFFFF", "04\\n")?;
-    text(tally, &mut s, "10", "03\\n")?;
-    text(tally, &mut s, "083B9ACA01", "05\\n")?;
-    text(tally, &mut s, "083B9ACA00", "00000000003B9ACA00\\n")?;
-    text(tally, &mut s, "0800000001", "000000000000000000\\n")
-}
-
-fn bank(tally: &mut Tally<'_>) -> Result<(), Failure> {
-    let mut s = Simulator::new();
-    text(tally, &mut s, "123B9ACA000000000100000000", "05\\n")?;
-    text(tally, &mut s, "12FFFFFFFF0000000100000000", "05\\n")?;
-    text(tally, &mut s, "12000000050000000300000002", "00\\n")?;
-    text(tally, &mut s, "0800000007", "000000000000000007\\n")?;
-    text(tally, &mut s, "0800000007", "000000000000000003\\n")?;
-    text(
+    session(
         tally,
-        &mut Simulator::new(),
-        "123B9AC9FF0000000000000001",
-        "00\\n",
+        &[
+            ("0800000001", "04\\n"),
+            ("083B9ACA01", "04\\n"),
+            ("103B9ACA01", "05\\n"),
+            ("0800000001", "04\\n"),
+            ("103B9ACA00", "00\\n"),
+            ("10FFFFFFFF", "04\\n"),
+            ("10", "03\\n"),
+            ("083B9ACA01", "05\\n"),
+            ("083B9ACA00", "00000000003B9ACA00\\n"),
+            ("0800000001", "000000000000000000\\n"),
+        ],
     )
 }
 
+fn bank(tally: &mut Tally<'_>) -> Result<(), Failure> {
+    session(
+        tally,
+        &[
+            ("123B9ACA000000000100000000", "05\\n"),
+            ("12FFFFFFFF0000000100000000", "05\\n"),
+            ("12000000050000000300000002", "00\\n"),
+            ("0800000007", "000000000000000007\\n"),
+            ("0800000007", "000000000000000003\\n"),
+        ],
+    )
+}
+
+// Cells of G together.
+fn largest_bank(tally: &mut Tally<'_>) -> Result<(), Failure> {
+    session(tally, &[("123B9AC9FF0000000000000001", "00\\n")])
+}
+
 fn layered(tally: &mut Tally<'_>) -> Result<(), Failure> {
-    let mut s = Simulator::new();
-    text(tally, &mut s, "1100000064000000042711", "05\\n")?;
-    text(tally, &mut s, "113B9ACA010000000403E8", "05\\n")?;
-    text(tally, &mut s, "11000000640000000403E8", "00\\n")?;
-    text(tally, &mut s, "0800000019", "000000000000000019\\n")?;
-    text(tally, &mut s, "0800000000", "000000000200000000\\n")?;
-    text(tally, &mut s, "0800000000", "000000000200000000\\n")?;
-    text(tally, &mut s, "080000000A", "00000000020000000A\\n")?;
-    text(tally, &mut s, "0800000000", "000000000300000000\\n")
+    session(
+        tally,
+        &[
+            ("1100000064000000042711", "05\\n"),
+            ("113B9ACA010000000403E8", "05\\n"),
+            ("11000000640000000403E8", "00\\n"),
+            ("0800000019", "000000000000000019\\n"),
+            ("0800000000", "000000000200000000\\n"),
+            ("0800000000", "000000000200000000\\n"),
+            ("080000000A", "00000000020000000A\\n"),
+            ("0800000000", "000000000300000000\\n"),
+        ],
+    )
 }
 
 fn all_leaks(tally: &mut Tally<'_>) -> Result<(), Failure> {
-    let mut s = Simulator::new();
-    text(tally, &mut s, "1100000064FFFFFFFF2710", "00\\n")?;
-    text(tally, &mut s, "0800000019", "000000000000000019\\n")?;
-    text(tally, &mut s, "0800000000", "000000001900000000\\n")
+    session(
+        tally,
+        &[
+            ("1100000064FFFFFFFF2710", "00\\n"),
+            ("0800000019", "000000000000000019\\n"),
+            ("0800000000", "000000001900000000\\n"),
+        ],
+    )
 }
 
 fn unknown(tally: &mut Tally<'_>) -> Result<(), Failure> {
-    let mut s = Simulator::new();
-    text(tally, &mut s, "00", "03\\n")?;
-    text(tally, &mut s, "08000000", "03\\n")?;
-    text(tally, &mut s, "0800000000FF", "03\\n")?;
-    text(tally, &mut s, "09", "03\\n")?;
-    text(tally, &mut s, "10000000", "03\\n")?;
-    text(tally, &mut s, "1000000064FF", "03\\n")?;
-    text(tally, &mut s, "110000006400000004", "03\\n")?;
-    text(tally, &mut s, "120000000500000003", "03\\n")?;
-    text(tally, &mut s, "1300000064", "03\\n")?;
-    bytes(tally, &mut s, "80 digits", &[b'0'; 80], "03\\n")
+    session(
+        tally,
+        &[
+            ("00", "03\\n"),
+            ("08000000", "03\\n"),
+            ("0800000000FF", "03\\n"),
+            ("09", "03\\n"),
+            ("10000000", "03\\n"),
+            ("1000000064FF", "03\\n"),
+            ("110000006400000004", "03\\n"),
+            ("120000000500000003", "03\\n"),
+            ("1300000064", "03\\n"),
+        ],
+    )
 }
 
+// Lines that are no frame's, whatever their bytes say.
 fn malformed(tally: &mut Tally<'_>) -> Result<(), Failure> {
-    let mut s = Simulator::new();
-    bytes(tally, &mut s, "empty line", b"", "02\\n")?;
-    bytes(tally, &mut s, "one digit", b"1", "02\\n")?;
-    bytes(tally, &mut s, "11 digits", b"10000000640", "02\\n")?;
-    bytes(tally, &mut s, "81 digits", &[b'0'; 81], "02\\n")?;
-    bytes(tally, &mut s, "82 digits", &[b'0'; 82], "02\\n")?;
-    bytes(tally, &mut s, "a lower-case digit", b"100000000a", "02\\n")?;
-    bytes(tally, &mut s, "a blank", b"10 0000064", "02\\n")?;
-    bytes(tally, &mut s, "a carriage return", b"100000006\r", "02\\n")?;
-    bytes(tally, &mut s, "a byte of 0", b"100000006\0", "02\\n")?;
-    bytes(tally, &mut s, "a byte of 255", b"100000006\xff", "02\\n")?;
-    bytes(tally, &mut s, "the byte before 0", b"100000006/", "02\\n")?;
-    bytes(tally, &mut s, "the byte after 9", b"100000006:", "02\\n")?;
-    bytes(tally, &mut s, "the byte before A", b"100000006@", "02\\n")?;
-    bytes(tally, &mut s, "the byte after F", b"100000006G", "02\\n")
+    let lines: [(&str, &[u8]); 14] = [
+        ("empty line", &b""[..]),
+        ("one digit", &b"1"[..]),
+        ("11 digits", &b"10000000640"[..]),
+        ("81 digits", &[b'0'; 81][..]),
+        ("82 digits", &[b'0'; 82][..]),
+        ("a lower-case digit", &b"100000000a"[..]),
+        ("a blank", &b"10 0000064"[..]),
+        ("a carriage return", &b"100000006\r"[..]),
+        ("a byte of 0", &b"100000006\0"[..]),
+        ("a byte of 255", &b"100000006\xff"[..]),
+        ("the byte before 0", &b"100000006/"[..]),
+        ("the byte after 9", &b"100000006:"[..]),
+        ("the byte before A", &b"100000006@"[..]),
+        ("the byte after F", &b"100000006G"[..]),
+    ];
+    for (what, line) in lines {
+        bytes(tally, &mut Simulator::new(), what, line, "02\\n")?;
+    }
+    Ok(())
+}
+
+// As many digits as a line may have.
+fn longest(tally: &mut Tally<'_>) -> Result<(), Failure> {
+    bytes(
+        tally,
+        &mut Simulator::new(),
+        "80 digits",
+        &[b'0'; 80],
+        "03\\n",
+    )
 }
 
 fn over_long(tally: &mut Tally<'_>) -> Result<(), Failure> {
@@ -182,9 +218,11 @@ fn long_array(tally: &mut Tally<'_>) -> Result<(), Failure> {
 pub fn run(tally: &mut Tally<'_>) -> Result<(), Failure> {
     capacitor(tally)?;
     bank(tally)?;
+    largest_bank(tally)?;
     layered(tally)?;
     all_leaks(tally)?;
     unknown(tally)?;
+    longest(tally)?;
     malformed(tally)?;
     over_long(tally)?;
     short_array(tally)?;
