@@ -15,7 +15,8 @@ use Rattle.node.specs.Rules.{after}
 use Rattle.node.specs.Steps.{State, Step, counted}
 use Rattle.node.specs.Sound.{Well, Few, Whole}
 use Rattle.node.proofs.Facts.{Facts, facts}
-use Rattle.node.proofs.Well.{well-after, grant-well, length-settled, length-marked}
+use Rattle.tables.proofs.GrantLaws.{length-marked}
+use Rattle.node.proofs.Well.{well-after, grant-well, length-settled}
 
 few-marked : (s t : Standing) (b : Books) → t .ticks ≡ s .ticks → t .serials ≡ s .serials → length (t .grants) ≡ length (s .grants) → Few s b → Few t b
 few-marked s t b ticks serials size f = record {

@@ -1,5 +1,4 @@
 -- The open grants: serials rise, no amount is 0, and what a grant or a settlement does to their sum.
---     Ledger low high gs     the serials of gs rise from above low up to high, and each amount is at least 1
 use mathlib.Core.Path.{_≡_, refl, sym, ap, _∙_}
 use mathlib.Core.Bool.{Bool, true, false, cond, not}
 use mathlib.Core.List.{List, [], _∷_, _++_}
@@ -10,12 +9,9 @@ use Rattle.std.proofs.shelf.Tests.{and-parts, eqb-true, ne-eqb, false≢true}
 use Rattle.std.specs.declared.option.Option.{Option}
 use Rattle.std.specs.declared.option.Option.the-variants.{None, Some}
 use Rattle.tables.specs.declared.grants.Grant.{Grant}
-use Rattle.tables.specs.Grants.{or-else, grant-of, out-with, fits-out, without, marked}
+use Rattle.tables.specs.Grants.{or-else, grant-of, out-with, fits-out, is-parked, fits-parked, without, mark, marked}
+use Rattle.node.specs.Sound.{Ledger}
 use Rattle.node.specs.Law.{outstanding}
-
-abbrev pub Ledger : ℕ → ℕ → List Grant → Type 0
-Ledger low high [] = low ≤ high
-Ledger low high (g ∷ gs) = (low < g .serial) × (1 ≤ g .amount) × Ledger (g .serial) high gs
 
 pub ledger-wider : (low lower high : ℕ) (gs : List Grant) → lower ≤ low → Ledger low high gs → Ledger lower high gs
 ledger-wider low lower high [] w l = omega arith
@@ -80,6 +76,29 @@ outstanding-settled low high serial amount (g ∷ gs) l f = go (eqb (g .serial) 
         let amounts : g .amount ≡ amount = eqb-true (g .amount) amount (and-parts (eqb (g .amount) amount) (not (g .parked)) fits .0) in
         omega (arith, ap outstanding rest)
     go false e later f = omega (arith, later (sym (ap (out-with amount) (or-nothing (grant-of serial gs))) ∙ f))
+
+marked-none : (low high serial : ℕ) (p : Bool) (gs : List Grant) → serial ≤ low → Ledger low high gs → marked p serial gs ≡ gs
+marked-none low high serial p [] w l = refl
+marked-none low high serial p (g ∷ gs) w l =
+    ap (λ b. record { serial = g .serial; amount = g .amount; reserve = g .reserve; parked = cond b p (g .parked) } ∷ marked p serial gs) (ne-eqb (g .serial) serial (λ e. omega (arith, l .0)))
+    ∙ ap (λ x. g ∷ x) (marked-none (g .serial) high serial p gs (omega (arith, l .0)) (l .2))
+
+-- a grant that was parked, taken out and parked again is as it was
+pub marked-back : (low high serial : ℕ) (gs : List Grant) → Ledger low high gs → fits-parked serial gs ≡ true → marked true serial (marked false serial gs) ≡ gs
+marked-back low high serial [] l f = absurd (false≢true f)
+marked-back low high serial (g ∷ gs) l f = go (eqb (g .serial) serial) refl (marked-back (g .serial) high serial gs (l .2)) f
+  where
+    go : (b : Bool) → eqb (g .serial) serial ≡ b → (fits-parked serial gs ≡ true → marked true serial (marked false serial gs) ≡ gs)
+        → is-parked (or-else (grant-of serial gs) (cond b (Some g) None)) ≡ true
+        → record { serial = g .serial; amount = g .amount; reserve = g .reserve; parked = cond b true (cond b false (g .parked)) } ∷ marked true serial (marked false serial gs) ≡ g ∷ gs
+    go true e later f =
+        let same : g .serial ≡ serial = eqb-true (g .serial) serial e in
+        let none = grant-none (g .serial) high serial gs (omega arith) (l .2) in
+        let parked : g .parked ≡ true = sym (ap (λ o. is-parked (or-else o (Some g))) none) ∙ f in
+        ap (λ x. record { serial = g .serial; amount = g .amount; reserve = g .reserve; parked = x } ∷ marked true serial (marked false serial gs)) (sym parked)
+        ∙ ap (λ x. g ∷ marked true serial x) (marked-none (g .serial) high serial false gs (omega arith) (l .2))
+        ∙ ap (λ x. g ∷ x) (marked-none (g .serial) high serial true gs (omega arith) (l .2))
+    go false e later f = ap (λ x. g ∷ x) (later (sym (ap is-parked (or-nothing (grant-of serial gs))) ∙ f))
 
 pub outstanding-none : (low high : ℕ) (gs : List Grant) → Ledger low high gs → outstanding gs ≡ 0 → gs ≡ []
 outstanding-none low high [] l z = refl

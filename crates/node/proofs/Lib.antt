@@ -3,6 +3,7 @@ pub mod Levels
 pub mod Alike
 pub mod Within
 pub mod Facts
+pub mod Ledger
 pub mod Well
 pub mod Kept
 pub mod Filled
@@ -15,7 +16,6 @@ pub mod Settling
 pub mod Ticking
 pub mod Goes
 pub mod Tale
-pub mod Ledger
 pub mod Accounts
 pub mod Sums
 pub mod Pace

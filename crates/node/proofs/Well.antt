@@ -20,12 +20,14 @@ use Rattle.tables.specs.Rows.{is-open, present, any, each}
 use Rattle.tables.specs.Reserves.{Reserve-rows, level-in, level-at, limit-in, parent-in, parent-of, give, lower, return-to, charge-loss, parent-is, is-parent}
 use Rattle.tables.specs.Taps.{Tap-rows, stepped, ends-at, figure-of, moved, after-moves, Figures}
 use Rattle.tables.specs.Grants.{or-else, grant-of, reserve-in, reserve-of, out-with, fits-out, of-reserve, without, marked}
+use Rattle.tables.proofs.GrantLaws.{length-marked}
 use Rattle.node.specs.Standing.{Standing, born}
 use Rattle.node.specs.Calls.{Event, refused, opened, closed, tapped, shut, granted, settled, parked, recalled, ticked, audited}
 use Rattle.node.specs.Rules.{after, before-taps}
-use Rattle.node.specs.Sound.{levels, Within, Parents, Tap-well, Taps-well, Grants-well, Well}
+use Rattle.node.specs.Sound.{levels, Within, Parents, Tap-well, Taps-well, Grants-well, Ledger, Well}
 use Rattle.node.proofs.Places.{none-some, nothing-there, some-same, read-written, read-elsewhere, read-empty, getD-each}
 use Rattle.node.proofs.Facts.{Facts, Opening, Closing, Ticking}
+use Rattle.node.proofs.Ledger.{ledger-granted, ledger-without, ledger-marked}
 use Rattle.node.proofs.Levels.{levels-set, levels-give, levels-lower, levels-return, levels-charge-loss}
 use Rattle.node.proofs.Alike.{Alike, alike-trans, alike-lower, alike-give, alike-return, alike-charge-loss, alike-moved, alike-after-moves}
 use Rattle.node.proofs.Within.{within-set, within-lower, within-return, within-charge-loss, within-after-moves, within-root-given}
@@ -194,10 +196,6 @@ length-settled serial amount (g ∷ gs) f = go (grant-of serial gs) (length-sett
     go None later true f = omega (arith, length-without serial gs)
     go None later false f = absurd (false≢true f)
 
-pub length-marked : (p : Bool) (serial : ℕ) (gs : List Grant) → length (marked p serial gs) ≡ length gs
-length-marked p serial [] = refl
-length-marked p serial (g ∷ gs) = ap suc (length-marked p serial gs)
-
 -- the reserve of a grant that is out is open, and its amount is at most G
 pub grant-well : (rs : Reserve-rows) (serial amount : ℕ) (gs : List Grant) → fits-out serial amount gs ≡ true → Grants-well rs gs → (present rs (reserve-of serial gs) ≡ true) × (amount ≤ bound)
 grant-well rs serial amount [] f w = absurd (false≢true f)
@@ -246,6 +244,7 @@ releveled s held held′ rs a sum within w = record {
   owners = grants-grow (s .reserves) rs (s .grants) (grows-alike (s .reserves) rs a) (w .owners);
   few = w .few;
   given = w .given;
+  ledger = w .ledger;
   serials = w .serials;
   ticks = w .ticks;
 }
@@ -277,6 +276,7 @@ well-opened s held held′ parent number owner limit amount f w =
       owners = grants-grow (s .reserves) (set rs number (Some x)) (s .grants) grows (w .owners);
       few = w .few;
       given = w .given;
+      ledger = w .ledger;
       serials = w .serials;
       ticks = w .ticks;
     }
@@ -307,6 +307,7 @@ well-closed s held held′ (suc j) f w =
       owners = grants-closed rs (s .grants) (suc j) (f .ungranted) (w .owners);
       few = w .few;
       given = w .given;
+      ledger = w .ledger;
       serials = w .serials;
       ticks = w .ticks;
     } in
@@ -335,13 +336,14 @@ re-tapped s held ts size ends w = record {
   owners = w .owners;
   few = w .few;
   given = w .given;
+  ledger = w .ledger;
   serials = w .serials;
   ticks = w .ticks;
 }
 
-re-granted : (s : Standing) (held : ℕ) (gs : List Grant) (serials : ℕ) → Grants-well (s .reserves) gs → length gs ≤ 64 → length gs ≤ serials → serials ≤ bound → Well s held
+re-granted : (s : Standing) (held : ℕ) (gs : List Grant) (serials : ℕ) → Grants-well (s .reserves) gs → length gs ≤ 64 → length gs ≤ serials → Ledger 0 serials gs → serials ≤ bound → Well s held
     → Well (record { reserves = s .reserves; taps = s .taps; grants = gs; serials = serials; ticks = s .ticks }) held
-re-granted s held gs serials owners few given most w = record {
+re-granted s held gs serials owners few given ledger most w = record {
   reserves = w .reserves;
   taps = w .taps;
   root = w .root;
@@ -353,6 +355,7 @@ re-granted s held gs serials owners few given most w = record {
   owners = owners;
   few = few;
   given = given;
+  ledger = ledger;
   serials = most;
   ticks = w .ticks;
 }
@@ -371,6 +374,7 @@ re-ticked s held ticks most w = record {
   owners = w .owners;
   few = w .few;
   given = w .given;
+  ledger = w .ledger;
   serials = w .serials;
   ticks = most;
 }
@@ -415,18 +419,18 @@ well-after s held (granted task reserve amount serial) held′ f w =
     let one = releveled s held held′ rs a sum (within-lower (s .reserves) reserve amount (w .within)) w in
     let size = length-append (s .grants) (g ∷ []) in
     re-granted _ held′ (s .grants ++ g ∷ []) serial (grants-more rs (s .grants) g (a .opens reserve ∙ f .here) (f .most) (one .owners))
-    (omega (arith, size, f .few)) (omega (arith, size, f .next, w .given)) (omega (arith, f .next, f .count)) one
+    (omega (arith, size, f .few)) (omega (arith, size, f .next, w .given)) (ledger-granted 0 (s .serials) (s .grants) g (omega (arith, f .next)) (f .some) (w .ledger)) (omega (arith, f .next, f .count)) one
 well-after s held (settled serial amount used lost) held′ f w =
     let back : ℕ = amount - used - lost in
     let i : ℕ = reserve-of serial (s .grants) in
     let rs : Reserve-rows = return-to (s .reserves) i back in
     let sum = levels-return (s .reserves) i back (grant-well (s .reserves) serial amount (s .grants) (f .fits) (w .owners) .0) (w .root) in
     let one = releveled s held held′ rs (alike-return (s .reserves) i back) (sum ∙ ap (λ x. x + back) (w .levels) ∙ sym (f .held)) (within-return (s .reserves) i back (w .within)) w in
-    re-granted _ held′ (without serial (s .grants)) (s .serials) (grants-without rs serial (s .grants) (one .owners)) (omega (arith, length-without serial (s .grants), w .few)) (omega (arith, length-without serial (s .grants), w .given)) (w .serials) one
+    re-granted _ held′ (without serial (s .grants)) (s .serials) (grants-without rs serial (s .grants) (one .owners)) (omega (arith, length-without serial (s .grants), w .few)) (omega (arith, length-without serial (s .grants), w .given)) (ledger-without 0 (s .serials) serial (s .grants) (w .ledger)) (w .serials) one
 well-after s held (parked serial amount) held′ f w =
-    re-granted s held′ (marked true serial (s .grants)) (s .serials) (grants-marked (s .reserves) true serial (s .grants) (w .owners)) (omega (arith, length-marked true serial (s .grants), w .few)) (omega (arith, length-marked true serial (s .grants), w .given)) (w .serials) (well-same s held held′ f w)
+    re-granted s held′ (marked true serial (s .grants)) (s .serials) (grants-marked (s .reserves) true serial (s .grants) (w .owners)) (omega (arith, length-marked true serial (s .grants), w .few)) (omega (arith, length-marked true serial (s .grants), w .given)) (ledger-marked 0 (s .serials) serial true (s .grants) (w .ledger)) (w .serials) (well-same s held held′ f w)
 well-after s held (recalled task serial amount) held′ f w =
-    re-granted s held′ (marked false serial (s .grants)) (s .serials) (grants-marked (s .reserves) false serial (s .grants) (w .owners)) (omega (arith, length-marked false serial (s .grants), w .few)) (omega (arith, length-marked false serial (s .grants), w .given)) (w .serials) (well-same s held held′ f w)
+    re-granted s held′ (marked false serial (s .grants)) (s .serials) (grants-marked (s .reserves) false serial (s .grants) (w .owners)) (omega (arith, length-marked false serial (s .grants), w .few)) (omega (arith, length-marked false serial (s .grants), w .given)) (ledger-marked 0 (s .serials) serial false (s .grants) (w .ledger)) (w .serials) (well-same s held held′ f w)
 well-after s held (ticked harvest loss intake figures) held′ f w = well-tick s held held′ harvest loss intake figures f w
 well-after s held (audited t) held′ f w = well-same s held held′ f w
 
@@ -443,6 +447,7 @@ well-born held = record {
   owners = tt;
   few = omega arith;
   given = omega arith;
+  ledger = omega arith;
   serials = omega arith;
   ticks = omega arith;
 }

@@ -4,6 +4,7 @@
 --     Parents rs         the parent of every open reserve is open
 --     Taps-well rs ts    every open tap has a rate, and leads from one open reserve to another
 --     Grants-well rs gs  every open grant is of an open reserve, and of at most G
+--     Ledger low high gs  the serials of gs rise from above low up to high, and no amount is 0
 --     Well s held        all of these of a node that stands at s over a store that holds so much, whose levels add up to that
 --     Few s b            what is counted fits 64 bits
 --     Whole s            the two together, of a state
@@ -48,6 +49,10 @@ abbrev pub Grants-well : Reserve-rows → List Grant → Type 0
 Grants-well rs [] = Unit {0}
 Grants-well rs (g ∷ gs) = (present rs (g .reserve) ≡ true) × (g .amount ≤ bound) × Grants-well rs gs
 
+abbrev pub Ledger : ℕ → ℕ → List Grant → Type 0
+Ledger low high [] = low ≤ high
+Ledger low high (g ∷ gs) = (low < g .serial) × (1 ≤ g .amount) × Ledger (g .serial) high gs
+
 pub record Well (s : Standing) (held : ℕ) : Type 0 where
   pub reserves : length (s .reserves) ≡ 32
   pub taps : length (s .taps) ≡ 96
@@ -60,6 +65,7 @@ pub record Well (s : Standing) (held : ℕ) : Type 0 where
   pub owners : Grants-well (s .reserves) (s .grants)
   pub few : length (s .grants) ≤ 64
   pub given : length (s .grants) ≤ s .serials
+  pub ledger : Ledger 0 (s .serials) (s .grants)
   pub serials : s .serials ≤ bound
   pub ticks : s .ticks ≤ bound
 

@@ -3,7 +3,7 @@ ghost use mathlib.Core.Path.{_≡_};
 ghost use mathlib.Core.Bool.{false};
 ghost use mathlib.Core.List.{[]};
 ghost use Prim.Native.Nat.{_+_, _-_, _^_, _≤_, min};
-ghost use lib.ListN.{length};
+ghost use lib.ListN.{drop, length};
 ghost use Rattle.tables.specs.Rows.{any};
 ghost use Rattle.tables.specs.Grants.{open-in, grant-of, of-reserve, added, without, mark, marked};
 
@@ -148,6 +148,8 @@ impl Grants {
     // The grant with this serial is parked, or is out.
     pub fn mark(&mut self, serial: u32, parked: bool)
         ensures after { λ _. ⌜ open-in (now (self .exit)) ≡ marked parked serial (open-in (now (self .entry))) ⌝ }
+        ensures count { λ _. ⌜ now (self .exit) .count ≡ now (self .entry) .count ⌝ }
+        ensures further { λ _. ⌜ drop (now (self .entry) .count) (now (self .exit) .rows) ≡ drop (now (self .entry) .count) (now (self .entry) .rows) ⌝ }
         ensures serials { λ _. ⌜ now (self .exit) .serials ≡ now (self .entry) .serials ⌝ }
     {
         let len = self.len();

@@ -4,7 +4,7 @@ use mathlib.Core.Bool.{false}
 use mathlib.Core.List.{List}
 use native.Mathlib.Omega.{arith}
 use lib.ListN.{length, getD, set, take}
-use Rattle.std.proofs.shelf.Lists.{length-take, getD-take}
+use Rattle.std.proofs.shelf.Lists.{length-take, getD-take, drop-set-lt}
 use Rattle.tables.specs.declared.grants.Grant.{Grant}
 use Rattle.tables.specs.Grants.{open-in, mark}
 use Rattle.tables.proofs.GrantLaws.{take-set-inside, marked-more, marked-all}
@@ -26,6 +26,7 @@ loop-i-again c =
           ∙ marked-more (c .args .parked) (c .args .serial) old (take count rows) i d inside (inv .0),
       inv .1,
       inv .2,
+      drop-set-lt (c .args .self .now .count) rows i (c .marked .result) (omega (arith, counted, inv .1)) ∙ inv .3,
     )
 
 pub returns : need.returns
@@ -35,5 +36,7 @@ returns c =
     let past : length old ≤ c .loop-i .i = omega (arith, c .loop-i-test .left, c .len-len .ensures .result) in
     record {
       after = marked-all (c .args .parked) (c .args .serial) old (open-in (c .loop-i .self)) (c .loop-i .i) past (inv .0);
+      count = inv .1;
+      further = inv .3;
       serials = inv .2;
     }

@@ -9,3 +9,4 @@ Inv-loop-i l =
     (open-in (l .self) ≡ marked (l .parked) (l .serial) (take (l .i) (open-in (l .entry .self))) ++ drop (l .i) (open-in (l .entry .self)))
     × (l .self .count ≡ l .entry .self .count)
     × (l .self .serials ≡ l .entry .self .serials)
+    × (drop (l .entry .self .count) (l .self .rows) ≡ drop (l .entry .self .count) (l .entry .self .rows))
