@@ -21,3 +21,4 @@ pub mod Sums
 pub mod Pace
 pub mod Root
 pub mod Lawful
+pub mod Parking

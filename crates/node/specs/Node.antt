@@ -1,6 +1,7 @@
 -- A node over any store, whose members are G. Assumes nothing.
 --     standing-of n          where the node n stands, by its tables
 --     Is-out slip n          the slip's grant is one of n's, and out
+--     Marked p serial n m    m is n with the grant of this serial parked (p true) or out (p false)
 --     state G n              its state: the store's meaning, where it stands, and its books
 --     Sound-node G n         its store is sound, and its state is whole
 --     Extends G n e m        from a sound node n, the event e leads to m, which is sound
@@ -10,17 +11,17 @@
 --     opening, closing, tapping, shutting, granting, settling, parking, recalling, ticking
 --                            the event of each call, by its arguments and its answer
 use mathlib.Core.Path.{_≡_}
-use mathlib.Core.Bool.{true}
+use mathlib.Core.Bool.{Bool, true}
 use mathlib.Core.List.{List}
 use Prim.Native.Nat.{ℕ}
-use lib.ListN.{length, take}
+use lib.ListN.{length, take, drop}
 use Rattle.std.specs.declared.option.Option.{Option}
 use Rattle.std.specs.declared.option.Option.the-variants.{None, Some}
 use Rattle.std.specs.declared.result.Result.{Result}
 use Rattle.std.specs.declared.result.Result.the-variants.{Ok, Err}
 use Rattle.store.specs.declared.store.Store.{Ghosts}
 use Rattle.store.specs.Meaning.{Meaning, meaning, Drawn}
-use Rattle.tables.specs.Grants.{open-in, fits-out}
+use Rattle.tables.specs.Grants.{open-in, fits-out, marked}
 use Rattle.tables.specs.Books.{first-books}
 use Rattle.node.specs.declared.denial.Denial.{Denial}
 use Rattle.node.specs.declared.denial.Overdraw.{Overdraw}
@@ -42,6 +43,14 @@ standing-of n = record { reserves = n .reserves .rows; taps = n .taps .rows; gra
 -- so that it can be settled or parked
 abbrev pub Is-out : {S : Type 0} → Slip → Node S → Type 0
 Is-out slip n = fits-out (slip .serial) (slip .amount) (open-in (n .grants)) ≡ true
+
+-- the grant with this serial is parked, or out, and nothing else has changed
+pub record Marked {S : Type 0} (p : Bool) (serial : ℕ) (n m : Node S) : Type 0 where
+  pub others : m ≡ record { store = n .store; reserves = n .reserves; taps = n .taps; grants = m .grants; books = n .books; ticks = n .ticks }
+  pub grants : open-in (m .grants) ≡ marked p serial (open-in (n .grants))
+  pub count : m .grants .count ≡ n .grants .count
+  pub further : drop (n .grants .count) (m .grants .rows) ≡ drop (n .grants .count) (n .grants .rows)
+  pub serials : m .grants .serials ≡ n .grants .serials
 
 module _ {S : Type 0} (G : Ghosts S) where
   abbrev pub store-means : Node S → Meaning

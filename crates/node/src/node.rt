@@ -2,13 +2,14 @@
 ghost use mathlib.Core.Path.{_≡_};
 ghost use Prim.Native.Nat.{_-_};
 ghost use lib.ListN.{drop};
+ghost use mathlib.Core.Bool.{true, false};
 ghost use Rattle.std.specs.Vec.{made, refused};
 ghost use Rattle.store.specs.Meaning.{Meaning};
-ghost use Rattle.node.specs.Calls.{settle as settlement, park as park-call, audited};
+ghost use Rattle.node.specs.Calls.{settle as settlement, park as park-call, recall as recall-call, audited};
 ghost use Rattle.node.specs.Rules.{turned-down};
 ghost use Rattle.node.specs.Runs.{Lawful};
 ghost use Rattle.node.specs.Steps.{verdict};
-ghost use Rattle.node.specs.Node.{standing-of, Is-out, Newborn, Extends, opening, closing, tapping, shutting};
+ghost use Rattle.node.specs.Node.{standing-of, Is-out, Marked, Newborn, Extends, opening, closing, tapping, shutting};
 ghost use Rattle.node.specs.Node.{granting, settling, parking, recalling, ticking, Drawn-for};
 use crate::denial::Denial;
 use crate::denial::DenialFromOverdraw;
@@ -188,7 +189,7 @@ impl<S: Store> Node<S> {
         ensures step { λ r. ⌜ Extends (S·Store) (now (self .entry)) (parking slip r) (now (self .exit)) ⌝ }
         ensures judged { λ r. ⌜ ((m : Meaning) → turned-down m (standing-of (now (self .entry))) (park-call (slip .serial) (slip .amount)) ≡ verdict (parking slip r)) ⌝ }
         ensures same { λ r. ⌜ refused r (λ e. (e .1 ≡ slip) × (now (self .exit) ≡ now (self .entry))) ⌝ }
-        ensures serial { λ r. ⌜ made r (λ serial. serial ≡ slip .serial) ⌝ }
+        ensures after { λ r. ⌜ made r (λ serial. (serial ≡ slip .serial) × Marked true serial (now (self .entry)) (now (self .exit))) ⌝ }
     {
         let Some(_) = self.out(slip.serial, slip.amount) else {
             return Err((Denial::NoSuchGrant, slip));
@@ -202,7 +203,9 @@ impl<S: Store> Node<S> {
     pub fn recall(&mut self, task: u8, serial: u32) -> Result<Slip, Denial>
         ensures step { λ r. ⌜ Extends (S·Store) (now (self .entry)) (recalling task serial r) (now (self .exit)) ⌝ }
         ensures same { λ r. ⌜ refused r (λ _. now (self .exit) ≡ now (self .entry)) ⌝ }
+        ensures judged { λ r. ⌜ ((m : Meaning) → turned-down m (standing-of (now (self .entry))) (recall-call task serial) ≡ verdict (recalling task serial r)) ⌝ }
         ensures slip { λ r. ⌜ made r (λ slip. (slip .serial ≡ serial) × Is-out slip (now (self .exit))) ⌝ }
+        ensures after { λ r. ⌜ made r (λ _. Marked false serial (now (self .entry)) (now (self .exit))) ⌝ }
     {
         let grant = self.may_recall(task, serial)?;
         self.grants.mark(serial, false);

@@ -1,28 +1,27 @@
--- What a line is answered, and what stands after it. Assumes nothing.
---     Stands s                 the store that stands, if one does, is sound
---     single-of, layered-of, cells-of      what each building frame makes, or its refusal
---     Harvested G h s l i t    t is the store s after a tick that lost l, and a charge of the harvest h that took in i
---     Ticks G h s r t          the same with the answer r, which is a refusal where h is above G
---     build-answer s m, build-state s m    what a frame is answered that makes m, and what stands after it
---     Runs s h r t             what a tick with the harvest h is answered, and what stands after it
---     Serves s f r t           what the frame f is answered, and what stands after it
---     frame-in line            the frame that a line is, or why it is none
---     Replies s line r t       what the line is answered, and what stands after it
---     Answers s line out r t out′      the same with the answer array before and after
+-- What a line is answered, which calls it stands for, and what stands after it. Assumes nothing.
+--     single-of, layered-of, cells-of      the store that each building frame makes, or its refusal
+--     standing s                 a node stands
+--     Reached s                  the node that stands, if one does, is reached by a run of calls from a new node over a sound store
+--     done x, told x             the answer to a call that tells nothing, and to a tick
+--     Grants G n t i q r m       a grant and, where it is accepted, the parking of its slip
+--     Settles G n t s u r m      a recall, where it is accepted a settlement, and where that is refused a parking
+--     Serves-on G n f r m        what the frame f is answered by the node n, and that m is where its calls lead
+--     Builds s make r s′         what a building frame is answered, and what stands after it
+--     Serves s f r s′            what the frame f is answered, and what stands after it
+--     frame-in line              the frame that a line is, or why it is none
+--     Replies s line r s′        what the line is answered, and what stands after it
+--     Answers s line out r s′ out′      the same with the answer array before and after
 use mathlib.Core.Path.{_≡_}
-use mathlib.Core.Bool.{Bool, true, false, cond}
+use mathlib.Core.Bool.{Bool, true, false}
 use mathlib.Core.List.{List}
 use Prim.Native.Nat.{ℕ, _≤_, _<_}
-use lib.Dec.{ltb}
 use lib.ListN.{length}
 use Rattle.std.specs.declared.result.Result.{Result}
 use Rattle.std.specs.declared.result.Result.the-variants.{Ok, Err}
-use Rattle.rates.specs.Amount.{bound}
 use Rattle.rates.specs.declared.amount.OutOfRange.{OutOfRange as Outside}
 use Rattle.store.specs.declared.store.Store.{Ghosts}
 use Rattle.store.specs.declared.capacitor.Capacitor.{Capacitor}
 use Rattle.store.specs.declared.bank.Bank.{Bank}
-use Rattle.store.specs.Meaning.{Meaning, meaning, Charged, Ticked}
 use Rattle.store.specs.Capacitor.{new-capacitor, capacitor-store}
 use Rattle.store.specs.Bank.{new-bank, bank-store}
 use Rattle.layers.specs.declared.floor.Floor.{Floor}
@@ -31,80 +30,129 @@ use Rattle.layers.specs.Floor.{floor-store}
 use Rattle.layers.specs.Leakage.{new-leakage, leakage-store}
 use Rattle.node.specs.declared.denial.Denial.{Denial}
 use Rattle.node.specs.declared.denial.Denial.the-variants.{OutOfRange}
+use Rattle.node.specs.declared.slip.Slip.{Slip}
+use Rattle.node.specs.declared.node.Node.{Node}
+use Rattle.node.specs.declared.totals.Totals.{Totals}
+use Rattle.node.specs.Calls.{History, parked, audited}
+use Rattle.node.specs.Node.{Newborn, Extends, opening, closing, tapping, shutting, granting, settling, recalling, ticking}
+use Rattle.node.specs.Runs.{Run, Lawful}
 use Rattle.frame.specs.declared.frame.Frame.{Frame}
-use Rattle.frame.specs.declared.frame.Frame.the-variants.{Capacitor as Capacitor-frame, Layered as Layered-frame, Bank as Bank-frame, Tick}
+use Rattle.frame.specs.declared.frame.Frame.the-variants.{Capacitor as Capacitor-frame, Layered as Layered-frame, Bank as Bank-frame, Open, Close, Tap, Shut, Grant, Settle, Tick, Audit}
 use Rattle.frame.specs.declared.fault.FrameFault.{FrameFault}
 use Rattle.frame.specs.declared.fault.FrameFault.the-variants.{ShortAnswer, OutOfTurn, Denied}
 use Rattle.frame.specs.declared.answer.Answer.{Answer}
-use Rattle.frame.specs.declared.answer.Answer.the-variants.{Done, Ticked as Told, Refused}
+use Rattle.frame.specs.declared.answer.Answer.the-variants.{Done, Granted, Settled, Ticked, Audited, Refused}
 use Rattle.frame.specs.Answer.{answered, after-answer}
 use Rattle.frame.specs.Digits.{line-of}
 use Rattle.frame.specs.Frame.{frame-of}
 use Rattle.simulator.specs.declared.simulator.Simulator.{Simulator}
 use Rattle.simulator.specs.declared.simulator.Simulator.the-variants.{Empty, Single, Layered, Cells}
 
-abbrev pub layered-store : Ghosts (Leakage (Floor Capacitor))
+abbrev pub Layers : Type 0
+Layers = Leakage (Floor Capacitor)
+
+abbrev pub layered-store : Ghosts Layers
 layered-store = leakage-store (floor-store capacitor-store)
 
-abbrev pub Stands : Simulator → Type 0
-Stands Empty = Unit {0}
-Stands (Single c) = capacitor-store .sound c
-Stands (Layered l) = layered-store .sound l
-Stands (Cells b) = bank-store .sound b
+abbrev pub Reached-on : {S : Type 0} → Ghosts S → Node S → Type 0
+Reached-on {S} G n = (birth : S) × (h : History) × Run G birth h n
 
-abbrev pub standing : Simulator → Bool
-standing Empty = false
-standing (Single c) = true
-standing (Layered l) = true
-standing (Cells b) = true
+abbrev pub Reached : Simulator → Type 0
+Reached Empty = Unit {0}
+Reached (Single n) = Reached-on capacitor-store n
+Reached (Layered n) = Reached-on layered-store n
+Reached (Cells n) = Reached-on bank-store n
 
--- the frames that build, each with what it makes
+-- the frames that build
 
-abbrev pub single-of : ℕ → Result Simulator Outside
-single-of c = elim (new-capacitor c) [ Ok x ↦ Ok (Single x) | Err e ↦ Err e ]
+abbrev pub single-of : ℕ → Result Capacitor Outside
+single-of c = new-capacitor c
 
-abbrev pub leaking : Result (Leakage (Floor Capacitor)) (Outside × Floor Capacitor) → Result Simulator Outside
-leaking (Ok l) = Ok (Layered l)
-leaking (Err e) = Err (e .0)
+abbrev pub without-floor : Result Layers (Outside × Floor Capacitor) → Result Layers Outside
+without-floor (Ok l) = Ok l
+without-floor (Err e) = Err (e .0)
 
-abbrev pub layered-of : ℕ → ℕ → ℕ → Result Simulator Outside
-layered-of c f p = elim (new-capacitor c) [ Ok x ↦ leaking (new-leakage (record { below = x; amount = f }) p) | Err e ↦ Err e ]
+abbrev pub layered-of : ℕ → ℕ → ℕ → Result Layers Outside
+layered-of c f p = elim (new-capacitor c) [ Ok x ↦ without-floor (new-leakage (record { below = x; amount = f }) p) | Err e ↦ Err e ]
 
-abbrev pub cells-of : List ℕ → Result Simulator Outside
-cells-of cs = elim (new-bank cs) [ Ok x ↦ Ok (Cells x) | Err e ↦ Err e ]
+abbrev pub cells-of : List ℕ → Result Bank Outside
+cells-of cs = new-bank cs
 
--- a store is built once; its number ranges are looked at after that
-abbrev pub build-answer : Simulator → Result Simulator Outside → Result Answer FrameFault
-build-answer s m = cond (standing s) (Err OutOfTurn) (elim m [ Ok x ↦ Ok Done | Err e ↦ Err (Denied OutOfRange) ])
+-- a node is built once; the ranges of the numbers are looked at after that
+abbrev pub Builds : {S : Type 0} → Ghosts S → (Node S → Simulator) → Simulator → Result S Outside → Result Answer FrameFault → Simulator → Type 0
+Builds {S} G put Empty (Ok x) r s′ = (r ≡ Ok Done) × ((n : Node S) × (s′ ≡ put n) × (G .sound x → Newborn G x n))
+Builds G put Empty (Err e) r s′ = (r ≡ Err (Denied OutOfRange)) × (s′ ≡ Empty)
+Builds G put (Single n) x r s′ = (r ≡ Err OutOfTurn) × (s′ ≡ Single n)
+Builds G put (Layered n) x r s′ = (r ≡ Err OutOfTurn) × (s′ ≡ Layered n)
+Builds G put (Cells n) x r s′ = (r ≡ Err OutOfTurn) × (s′ ≡ Cells n)
 
-abbrev pub build-state : Simulator → Result Simulator Outside → Simulator
-build-state s m = cond (standing s) s (elim m [ Ok x ↦ x | Err e ↦ s ])
+-- the frames that call a node
 
--- the store ticks, and then the harvest is charged
+abbrev pub done : Result (Unit {0}) Denial → Result Answer FrameFault
+done (Ok u) = Ok Done
+done (Err d) = Err (Denied d)
 
-pub record Harvested {S : Type 0} (G : Ghosts S) (harvest : ℕ) (s : S) (loss intake : ℕ) (t : S) : Type 0 where
-  pub between : Meaning
-  pub ticked : Ticked (meaning (G .held) (G .capacity) (G .stages) s) loss between
-  pub charged : Charged harvest between intake (meaning (G .held) (G .capacity) (G .stages) t)
+abbrev pub told : Result (ℕ × ℕ) Denial → Result Answer FrameFault
+told (Ok a) = Ok (Ticked (a .0) (a .1))
+told (Err d) = Err (Denied d)
 
-abbrev pub Ticks : {S : Type 0} → Ghosts S → ℕ → S → Result Answer FrameFault → S → Type 0
-Ticks G h s (Ok a) t = (h ≤ bound) × ((loss : ℕ) × (intake : ℕ) × (a ≡ Told loss intake) × (G .sound s → Harvested G h s loss intake t))
-Ticks G h s (Err f) t = (bound < h) × (f ≡ Denied OutOfRange) × (t ≡ s)
+module _ {S : Type 0} (G : Ghosts S) where
+  abbrev pub Parks : Result Slip Denial → Node S → Result Answer FrameFault → Node S → Type 0
+  Parks (Ok slip) k r m = Extends G k (parked (slip .serial) (slip .amount)) m × (r ≡ Ok (Granted (slip .serial)))
+  Parks (Err d) k r m = (m ≡ k) × (r ≡ Err (Denied d))
 
-abbrev pub Runs : Simulator → ℕ → Result Answer FrameFault → Simulator → Type 0
-Runs Empty h r s′ = (r ≡ Err OutOfTurn) × (s′ ≡ Empty)
-Runs (Single c) h r s′ = (t : Capacitor) × (s′ ≡ Single t) × Ticks capacitor-store h c r t
-Runs (Layered l) h r s′ = (t : Leakage (Floor Capacitor)) × (s′ ≡ Layered t) × Ticks layered-store h l r t
-Runs (Cells b) h r s′ = (t : Bank) × (s′ ≡ Cells t) × Ticks bank-store h b r t
+  abbrev pub Grants : Node S → ℕ → ℕ → ℕ → Result Answer FrameFault → Node S → Type 0
+  Grants n task reserve amount r m = (x : Result Slip Denial) × (k : Node S) × Extends G n (granting task reserve amount x) k × Parks x k r m
 
-abbrev pub Builds : Simulator → Result Simulator Outside → Result Answer FrameFault → Simulator → Type 0
-Builds s m r s′ = (r ≡ build-answer s m) × (s′ ≡ build-state s m)
+  abbrev pub Ends : Slip → Result ℕ (Denial × Slip) → Node S → Result Answer FrameFault → Node S → Type 0
+  Ends slip (Ok lost) j r m = (m ≡ j) × (r ≡ Ok (Settled lost))
+  Ends slip (Err e) j r m = Extends G j (parked (slip .serial) (slip .amount)) m × (r ≡ Err (Denied (e .0)))
+
+  abbrev pub Settled-with : Result Slip Denial → ℕ → Node S → Result Answer FrameFault → Node S → Type 0
+  Settled-with (Ok slip) used k r m = (y : Result ℕ (Denial × Slip)) × (j : Node S) × Extends G k (settling slip used y) j × Ends slip y j r m
+  Settled-with (Err d) used k r m = (m ≡ k) × (r ≡ Err (Denied d))
+
+  abbrev pub Settles : Node S → ℕ → ℕ → ℕ → Result Answer FrameFault → Node S → Type 0
+  Settles n task serial used r m = (x : Result Slip Denial) × (k : Node S) × Extends G n (recalling task serial x) k × Settled-with x used k r m
+
+  abbrev pub Turned : Node S → Result Answer FrameFault → Node S → Type 0
+  Turned n r m = (r ≡ Err OutOfTurn) × (m ≡ n)
+
+  -- what a frame is answered names the calls that it makes, in order, each from the node that the one before left
+  abbrev pub Serves-on : Node S → Frame → Result Answer FrameFault → Node S → Type 0
+  Serves-on n (Capacitor-frame c) r m = Turned n r m
+  Serves-on n (Layered-frame c f p) r m = Turned n r m
+  Serves-on n (Bank-frame cs) r m = Turned n r m
+  Serves-on n (Open t p i o l q) r m = (x : Result (Unit {0}) Denial) × Extends G n (opening t p i o l q x) m × (r ≡ done x)
+  Serves-on n (Close t i) r m = (x : Result (Unit {0}) Denial) × Extends G n (closing t i x) m × (r ≡ done x)
+  Serves-on n (Tap t k a b p d) r m = (x : Result (Unit {0}) Denial) × Extends G n (tapping t k a b p d x) m × (r ≡ done x)
+  Serves-on n (Shut t k) r m = (x : Result (Unit {0}) Denial) × Extends G n (shutting t k x) m × (r ≡ done x)
+  Serves-on n (Grant t i q) r m = Grants n t i q r m
+  Serves-on n (Settle t s u) r m = Settles n t s u r m
+  Serves-on n (Tick h) r m = (report : List ℕ) × (x : Result (ℕ × ℕ) Denial) × Extends G n (ticking h report x) m × (r ≡ told x)
+  Serves-on n Audit r m = (t : Totals) × Extends G n (audited t) n × Lawful G n t × (r ≡ Ok (Audited t)) × (m ≡ n)
+
+abbrev pub Serves-in : {S : Type 0} → Ghosts S → (Node S → Simulator) → Node S → Frame → Result Answer FrameFault → Simulator → Type 0
+Serves-in {S} G put n f r s′ = (m : Node S) × (s′ ≡ put m) × Serves-on G n f r m
+
+abbrev pub Waits : Frame → Result Answer FrameFault → Simulator → Type 0
+Waits (Capacitor-frame c) r s′ = Builds capacitor-store Single Empty (single-of c) r s′
+Waits (Layered-frame c f p) r s′ = Builds layered-store Layered Empty (layered-of c f p) r s′
+Waits (Bank-frame cs) r s′ = Builds bank-store Cells Empty (cells-of cs) r s′
+Waits (Open t p i o l q) r s′ = (r ≡ Err OutOfTurn) × (s′ ≡ Empty)
+Waits (Close t i) r s′ = (r ≡ Err OutOfTurn) × (s′ ≡ Empty)
+Waits (Tap t k a b p d) r s′ = (r ≡ Err OutOfTurn) × (s′ ≡ Empty)
+Waits (Shut t k) r s′ = (r ≡ Err OutOfTurn) × (s′ ≡ Empty)
+Waits (Grant t i q) r s′ = (r ≡ Err OutOfTurn) × (s′ ≡ Empty)
+Waits (Settle t s u) r s′ = (r ≡ Err OutOfTurn) × (s′ ≡ Empty)
+Waits (Tick h) r s′ = (r ≡ Err OutOfTurn) × (s′ ≡ Empty)
+Waits Audit r s′ = (r ≡ Err OutOfTurn) × (s′ ≡ Empty)
 
 abbrev pub Serves : Simulator → Frame → Result Answer FrameFault → Simulator → Type 0
-Serves s (Capacitor-frame c) r s′ = Builds s (single-of c) r s′
-Serves s (Layered-frame c f p) r s′ = Builds s (layered-of c f p) r s′
-Serves s (Bank-frame cs) r s′ = Builds s (cells-of cs) r s′
-Serves s (Tick h) r s′ = Runs s h r s′
+Serves Empty f r s′ = Waits f r s′
+Serves (Single n) f r s′ = Serves-in capacitor-store Single n f r s′
+Serves (Layered n) f r s′ = Serves-in layered-store Layered n f r s′
+Serves (Cells n) f r s′ = Serves-in bank-store Cells n f r s′
 
 -- a line: its digits, then its frame, then what is served
 
@@ -122,7 +170,11 @@ abbrev pub answer-of : Result Answer FrameFault → Answer
 answer-of (Ok a) = a
 answer-of (Err f) = Refused f
 
--- an array that is too short is told before the line is looked at
+abbrev pub Same-if-refused : Result Answer FrameFault → Simulator → Simulator → Type 0
+Same-if-refused (Ok a) s s′ = Unit {0}
+Same-if-refused (Err f) s s′ = s′ ≡ s
+
+-- an array that is too short is told before the line is looked at; a line that is refused leaves what stood
 pub record Answers (s : Simulator) (line out : List ℕ) (r : Result ℕ FrameFault) (s′ : Simulator) (out′ : List ℕ) : Type 0 where
   pub short : length out < 160 → (r ≡ Err ShortAnswer) × (s′ ≡ s) × (out′ ≡ out)
-  pub long : 160 ≤ length out → (a : Result Answer FrameFault) × Replies s line a s′ × (r ≡ answered (answer-of a) out) × (out′ ≡ after-answer (answer-of a) out)
+  pub long : 160 ≤ length out → (a : Result Answer FrameFault) × Replies s line a s′ × (r ≡ answered (answer-of a) out) × (out′ ≡ after-answer (answer-of a) out) × (Reached s → Same-if-refused a s s′)

@@ -21,5 +21,5 @@ returns g c = record {
       });
   judged = λ m. park-clear m (standing-of (c .args .self .now)) (c .args .slip .serial) (c .args .slip .amount) (c .in-Some .ensures tt .result .0);
   same = tt;
-  serial = refl;
+  after = (refl, record { others = refl; grants = c .mark .ensures .after; count = c .mark .ensures .count; further = c .mark .ensures .further; serials = c .mark .ensures .serials });
 }

@@ -15,7 +15,9 @@ returns-in-Break-grant g c =
       step = turned-away (g .S·Store) (c .args .self .now) (recall (c .args .task) (c .args .serial)) _
           (sym (c .in-Break-grant .ensures tt .judged (store-means (g .S·Store) (c .args .self .now))));
       same = refl;
+      judged = λ m. sym (c .in-Break-grant .ensures tt .judged m);
       slip = tt;
+      after = tt;
     })
 
 pub returns : need.returns
@@ -31,5 +33,7 @@ returns g c = record {
         books = refl;
       });
   same = tt;
+  judged = λ m. sym (c .in-Continue-grant .ensures tt .judged m);
   slip = (refl, recalled-out (c .args .self .now .grants) (c .args .serial) (c .in-Continue-grant .grant) _ (c .in-Continue-grant .ensures tt .found) (c .mark .ensures .after));
+  after = record { others = refl; grants = c .mark .ensures .after; count = c .mark .ensures .count; further = c .mark .ensures .further; serials = c .mark .ensures .serials };
 }
