@@ -1,4 +1,6 @@
 // What ends the story early.
+ghost use mathlib.Core.Path.{_≡_};
+ghost use Rattle.probe.specs.declared.failure.Failure.the-variants.{OutOfRange as Outside, Fault as Refused, Denied, Returned, Output};
 use node::Denial;
 use node::DenialDisplay;
 use node::Slip;
@@ -20,24 +22,32 @@ pub enum Failure {
 }
 
 pub impl From<OutOfRange> for Failure as FailureFromOutOfRange {
+    ghost converts = { λ _ f. f ≡ Outside };
+
     fn from(_out: OutOfRange) -> Failure {
         Failure::OutOfRange
     }
 }
 
 pub impl From<Fault> for Failure as FailureFromFault {
+    ghost converts = { λ fault f. f ≡ Refused fault };
+
     fn from(fault: Fault) -> Failure {
         Failure::Fault(fault)
     }
 }
 
 pub impl From<Denial> for Failure as FailureFromDenial {
+    ghost converts = { λ denial f. f ≡ Denied denial };
+
     fn from(denial: Denial) -> Failure {
         Failure::Denied(denial)
     }
 }
 
 pub impl From<(Denial, Slip)> for Failure as FailureFromSlip {
+    ghost converts = { λ pair f. f ≡ Returned (pair .0) (pair .1) };
+
     fn from(returned: (Denial, Slip)) -> Failure {
         let (denial, slip) = returned;
         Failure::Returned(denial, slip)
@@ -45,6 +55,8 @@ pub impl From<(Denial, Slip)> for Failure as FailureFromSlip {
 }
 
 pub impl From<io::Error> for Failure as FailureFromOutput {
+    ghost converts = { λ error f. f ≡ Output error };
+
     fn from(error: io::Error) -> Failure {
         Failure::Output(error)
     }

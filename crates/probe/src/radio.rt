@@ -1,6 +1,6 @@
 // A soil probe whose radio is fed by a tap, and sends whenever its dues cover a send.
 ghost use mathlib.Core.Path.{_≡_};
-ghost use Prim.Native.Nat.{_-_, _/_};
+ghost use Prim.Native.Nat.{_+_, _-_, _/_, _^_, min};
 ghost use lib.Dec.{leb};
 use crate::failure::Failure;
 use crate::failure::FailureFromDenial;
@@ -56,7 +56,9 @@ fn covers(due: u64, requested: u64) -> bool
 }
 
 // Requests a grant for one send, and counts how it went.
-fn request<S: Store>(node: &mut Node<S>, tally: &mut Tally) -> Result<Slip, Denial> {
+fn request<S: Store>(node: &mut Node<S>, tally: &mut Tally) -> Result<Slip, Denial>
+    ensures requested { λ _. ⌜ now (tally .exit) .requested ≡ min (now (tally .entry) .requested + 31) (2 ^ 64 - 1) ⌝ }
+{
     tally.request(SEND);
     match node.grant(RADIO_TASK, RADIO, SEND) {
         Ok(slip) => {
@@ -88,16 +90,25 @@ fn show(rt: &impl Print, tally: &Tally) -> Result<(), Failure> {
     let ticks = tally.ticks;
     let due = due_after(ticks);
     let delivered = tally.delivered;
-    println!(rt, "After {ticks} ticks {due} quanta were due to the radio, and {delivered} were delivered.")?;
+    println!(
+        rt,
+        "After {ticks} ticks {due} quanta were due to the radio, and {delivered} were delivered."
+    )?;
     let requests = tally.requests;
     let requested = tally.requested;
     let granted = tally.granted;
-    let denials = tally.denials();
-    println!(rt, "It made {requests} requests, for {requested} quanta: {granted} were granted and {denials} denied.")?;
+    let denied = tally.denied;
+    println!(
+        rt,
+        "It made {requests} requests, for {requested} quanta: {granted} were granted and {denied} denied."
+    )?;
     let settled = tally.settled;
     let spent = tally.spent;
     let lost = tally.lost;
-    println!(rt, "It settled {settled} slips: {spent} quanta were spent and {lost} lost.")?;
+    println!(
+        rt,
+        "It settled {settled} slips: {spent} quanta were spent and {lost} lost."
+    )?;
     Ok(())
 }
 
@@ -110,17 +121,23 @@ fn hasten<S: Store>(rt: &impl Print, node: &mut Node<S>, tally: &mut Tally) -> R
         }
         Err(denial) => println!(rt, "A request beyond the dues is denied: {denial}.")?,
     }
-    for (number, count) in tally.denied.iter().enumerate() {
+    for (number, count) in tally.reasons.iter().enumerate() {
         if *count > 0 {
-            println!(rt, "Refusal {number} was met {count} time(s) in all.")?;
+            println!(rt, "Requests denied with refusal {number}: {count}.")?;
         }
     }
     Ok(())
 }
 
 pub fn tell(rt: &impl Print) -> Result<(), Failure> {
-    println!(rt, "A soil probe has a capacitor of {CAPACITY} quanta and a harvest of {HARVEST} a tick.")?;
-    println!(rt, "Its radio is fed 1 quantum in {TICKS_A_QUANTUM} ticks, and a send takes {SEND} quanta.")?;
+    println!(
+        rt,
+        "A soil probe has a capacitor of {CAPACITY} quanta and a harvest of {HARVEST} a tick."
+    )?;
+    println!(
+        rt,
+        "Its radio is fed 1 quantum in {TICKS_A_QUANTUM} ticks, and a send takes {SEND} quanta."
+    )?;
     let mut node = Node::new(Capacitor::new(CAPACITY)?);
     node.open(ROOT_TASK, ROOT, RADIO, RADIO_TASK, RADIO_LIMIT, 0)?;
     node.tap(ROOT_TASK, RADIO_TAP, ROOT, RADIO, 1, TICKS_A_QUANTUM)?;

@@ -28,7 +28,10 @@ const TAPS: usize = 96;
 fn tick<S: Store>(rt: &impl Print, node: &mut Node<S>, harvest: u32) -> Result<(), Failure> {
     let mut report = [0; TAPS];
     let (loss, intake) = node.tick(harvest, &mut report)?;
-    println!(rt, "A tick with a harvest of {harvest} loses {loss} and takes in {intake}.")?;
+    println!(
+        rt,
+        "A tick with a harvest of {harvest} loses {loss} and takes in {intake}."
+    )?;
     Ok(())
 }
 
@@ -37,11 +40,17 @@ fn spend<S: Store>(rt: &impl Print, node: &mut Node<S>, amount: u32) -> Result<(
     match node.grant(ROOT_TASK, ROOT, amount) {
         Ok(slip) => {
             let lost = node.settle(slip, amount)?;
-            println!(rt, "A grant of {amount} is settled with all used, and {lost} are lost.")?;
+            println!(
+                rt,
+                "A grant of {amount} is settled with all used, and {lost} are lost."
+            )?;
         }
         Err(denial) => {
             let number = denial.number();
-            println!(rt, "A grant of {amount} is denied with refusal {number}: {denial}.")?;
+            println!(
+                rt,
+                "A grant of {amount} is denied with refusal {number}: {denial}."
+            )?;
         }
     }
     Ok(())
@@ -65,23 +74,32 @@ fn tell_settlement(rt: &impl Print, bank: Bank) -> Result<(), Failure> {
     let (_, intake) = ticked?;
     println!(rt, "While a slip for 5 is out, a tick takes in {intake}.")?;
     let back = returned(5, 2, lost);
-    println!(rt, "The slip is settled with 2 used: {back} returns and {lost} are lost.")?;
+    println!(
+        rt,
+        "The slip is settled with 2 used: {back} returns and {lost} are lost."
+    )?;
     Ok(())
 }
 
 pub fn tell_bank(rt: &impl Print) -> Result<(), Failure> {
     let mut bank = Bank::new(&[5, 3, 2])?;
     let taken = bank.charge(7);
-    let full = bank.cells();
-    println!(rt, "A bank with cells of 5, 3 and 2 takes in {taken} and holds {full:?}.")?;
+    let cells = bank.cells();
+    println!(
+        rt,
+        "A bank with cells of 5, 3 and 2 takes in {taken} and holds {cells:?}."
+    )?;
     bank.draw(3)?;
-    let left = bank.cells();
-    println!(rt, "After a draw of 3 it holds {left:?}.")?;
+    let cells = bank.cells();
+    println!(rt, "After a draw of 3 it holds {cells:?}.")?;
     tell_settlement(rt, bank)
 }
 
 pub fn tell_layers(rt: &impl Print) -> Result<(), Failure> {
-    println!(rt, "A capacitor of 25 stands under a floor of 4, under a leakage of 1000 parts.")?;
+    println!(
+        rt,
+        "A capacitor of 25 stands under a floor of 4, under a leakage of 1000 parts."
+    )?;
     let floor = Floor::new(Capacitor::new(25)?, 4);
     let leakage = match Leakage::new(floor, 1_000) {
         Ok(leakage) => leakage,

@@ -1,6 +1,8 @@
 // What the radio was due, what it got, and how its requests went.
 ghost use mathlib.Core.Path.{_≡_};
-ghost use Prim.Native.Nat.{_+_, _-_, _^_, min};
+ghost use Prim.Native.Nat.{_+_, _-_, _^_, _<_, min};
+ghost use lib.ListN.{getD, set};
+ghost use Rattle.node.specs.Denial.{number-of};
 use node::Denial;
 
 // The refusal numbers end below this.
@@ -13,22 +15,27 @@ pub struct Tally {
     pub requests: u64,
     pub requested: u64,
     pub granted: u64,
-    // Requests denied, by refusal number.
-    pub denied: [u64; REFUSALS],
+    pub denied: u64,
+    // The denied requests by refusal number.
+    pub reasons: [u64; REFUSALS],
     pub settled: u64,
     pub spent: u64,
     pub lost: u64,
 }
 
 impl Tally {
-    pub fn new() -> Tally {
+    pub fn new() -> Tally
+        ensures ticks { λ r. ⌜ r .ticks ≡ 0 ⌝ }
+        ensures requested { λ r. ⌜ r .requested ≡ 0 ⌝ }
+    {
         Tally {
             ticks: 0,
             delivered: 0,
             requests: 0,
             requested: 0,
             granted: 0,
-            denied: [0; REFUSALS],
+            denied: 0,
+            reasons: [0; REFUSALS],
             settled: 0,
             spent: 0,
             lost: 0,
@@ -50,14 +57,22 @@ impl Tally {
         self.requested = self.requested.saturating_add(u64::from(amount));
     }
 
-    pub fn grant(&mut self) {
+    pub fn grant(&mut self)
+        ensures granted { λ _. ⌜ now (self .exit) .granted ≡ min (now (self .entry) .granted + 1) (2 ^ 64 - 1) ⌝ }
+        ensures requested { λ _. ⌜ now (self .exit) .requested ≡ now (self .entry) .requested ⌝ }
+    {
         self.granted = self.granted.saturating_add(1);
     }
 
-    pub fn deny(&mut self, denial: Denial) {
+    pub fn deny(&mut self, denial: Denial)
+        ensures denied { λ _. ⌜ now (self .exit) .denied ≡ min (now (self .entry) .denied + 1) (2 ^ 64 - 1) ⌝ }
+        ensures requested { λ _. ⌜ now (self .exit) .requested ≡ now (self .entry) .requested ⌝ }
+        ensures reasons { λ _. ⌜ (number-of denial < 18 → now (self .exit) .reasons ≡ set (now (self .entry) .reasons) (number-of denial) (min (getD (now (self .entry) .reasons) (number-of denial) 0 + 1) (2 ^ 64 - 1))) ⌝ }
+    {
+        self.denied = self.denied.saturating_add(1);
         let number = usize::from(denial.number());
         if number < REFUSALS {
-            self.denied[number] = self.denied[number].saturating_add(1);
+            self.reasons[number] = self.reasons[number].saturating_add(1);
         }
     }
 
@@ -68,13 +83,5 @@ impl Tally {
         self.settled = self.settled.saturating_add(1);
         self.spent = self.spent.saturating_add(u64::from(used));
         self.lost = self.lost.saturating_add(u64::from(lost));
-    }
-
-    pub fn denials(&self) -> u64 {
-        let mut all = 0u64;
-        for count in &self.denied {
-            all = all.saturating_add(*count);
-        }
-        all
     }
 }
