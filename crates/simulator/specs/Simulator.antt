@@ -1,12 +1,13 @@
 -- What a line is answered, which calls it stands for, and what stands after it. Assumes nothing.
 --     single-of, layered-of, cells-of      the store that each building frame makes, or its refusal
---     standing s                 a node stands
 --     Reached s                  the node that stands, if one does, is reached by a run of calls from a new node over a sound store
 --     done x, told x             the answer to a call that tells nothing, and to a tick
 --     Grants G n t i q r m       a grant and, where it is accepted, the parking of its slip
 --     Settles G n t s u r m      a recall, where it is accepted a settlement, and where that is refused a parking
 --     Serves-on G n f r m        what the frame f is answered by the node n, and that m is where its calls lead
---     Builds s make r s′         what a building frame is answered, and what stands after it
+--     Made G put x r             r is a new node over the store x, where x could be built
+--     Built f r                  what the frame f builds, where no node stands
+--     Stands made r s′           what a frame is answered where no node stood, and what stands after it
 --     Serves s f r s′            what the frame f is answered, and what stands after it
 --     frame-in line              the frame that a line is, or why it is none
 --     Replies s line r s′        what the line is answered, and what stands after it
@@ -78,13 +79,35 @@ layered-of c f p = elim (new-capacitor c) [ Ok x ↦ without-floor (new-leakage 
 abbrev pub cells-of : List ℕ → Result Bank Outside
 cells-of cs = new-bank cs
 
--- a node is built once; the ranges of the numbers are looked at after that
-abbrev pub Builds : {S : Type 0} → Ghosts S → (Node S → Simulator) → Simulator → Result S Outside → Result Answer FrameFault → Simulator → Type 0
-Builds {S} G put Empty (Ok x) r s′ = (r ≡ Ok Done) × ((n : Node S) × (s′ ≡ put n) × (G .sound x → Newborn G x n))
-Builds G put Empty (Err e) r s′ = (r ≡ Err (Denied OutOfRange)) × (s′ ≡ Empty)
-Builds G put (Single n) x r s′ = (r ≡ Err OutOfTurn) × (s′ ≡ Single n)
-Builds G put (Layered n) x r s′ = (r ≡ Err OutOfTurn) × (s′ ≡ Layered n)
-Builds G put (Cells n) x r s′ = (r ≡ Err OutOfTurn) × (s′ ≡ Cells n)
+-- a store that can be built is sound, and a new node stands over it
+abbrev pub Made : {S : Type 0} → Ghosts S → (Node S → Simulator) → Result S Outside → Result Simulator Outside → Type 0
+Made {S} G put (Ok x) r = (n : Node S) × (r ≡ Ok (put n)) × G .sound x × Newborn G x n
+Made G put (Err e) r = r ≡ Err e
+
+abbrev pub ranged : Result Simulator Outside → Result Simulator FrameFault
+ranged (Ok s) = Ok s
+ranged (Err e) = Err (Denied OutOfRange)
+
+abbrev pub Builds : {S : Type 0} → Ghosts S → (Node S → Simulator) → Result S Outside → Result Simulator FrameFault → Type 0
+Builds G put x r = (made : Result Simulator Outside) × Made G put x made × (r ≡ ranged made)
+
+-- what a frame builds; one that builds nothing is out of turn before a node stands
+abbrev pub Built : Frame → Result Simulator FrameFault → Type 0
+Built (Capacitor-frame c) r = Builds capacitor-store Single (single-of c) r
+Built (Layered-frame c f p) r = Builds layered-store Layered (layered-of c f p) r
+Built (Bank-frame cs) r = Builds bank-store Cells (cells-of cs) r
+Built (Open t p i o l q) r = r ≡ Err OutOfTurn
+Built (Close t i) r = r ≡ Err OutOfTurn
+Built (Tap t k a b p d) r = r ≡ Err OutOfTurn
+Built (Shut t k) r = r ≡ Err OutOfTurn
+Built (Grant t i q) r = r ≡ Err OutOfTurn
+Built (Settle t s u) r = r ≡ Err OutOfTurn
+Built (Tick h) r = r ≡ Err OutOfTurn
+Built Audit r = r ≡ Err OutOfTurn
+
+abbrev pub Stands : Result Simulator FrameFault → Result Answer FrameFault → Simulator → Type 0
+Stands (Ok s) r s′ = (r ≡ Ok Done) × (s′ ≡ s)
+Stands (Err f) r s′ = (r ≡ Err f) × (s′ ≡ Empty)
 
 -- the frames that call a node
 
@@ -135,21 +158,8 @@ module _ {S : Type 0} (G : Ghosts S) where
 abbrev pub Serves-in : {S : Type 0} → Ghosts S → (Node S → Simulator) → Node S → Frame → Result Answer FrameFault → Simulator → Type 0
 Serves-in {S} G put n f r s′ = (m : Node S) × (s′ ≡ put m) × Serves-on G n f r m
 
-abbrev pub Waits : Frame → Result Answer FrameFault → Simulator → Type 0
-Waits (Capacitor-frame c) r s′ = Builds capacitor-store Single Empty (single-of c) r s′
-Waits (Layered-frame c f p) r s′ = Builds layered-store Layered Empty (layered-of c f p) r s′
-Waits (Bank-frame cs) r s′ = Builds bank-store Cells Empty (cells-of cs) r s′
-Waits (Open t p i o l q) r s′ = (r ≡ Err OutOfTurn) × (s′ ≡ Empty)
-Waits (Close t i) r s′ = (r ≡ Err OutOfTurn) × (s′ ≡ Empty)
-Waits (Tap t k a b p d) r s′ = (r ≡ Err OutOfTurn) × (s′ ≡ Empty)
-Waits (Shut t k) r s′ = (r ≡ Err OutOfTurn) × (s′ ≡ Empty)
-Waits (Grant t i q) r s′ = (r ≡ Err OutOfTurn) × (s′ ≡ Empty)
-Waits (Settle t s u) r s′ = (r ≡ Err OutOfTurn) × (s′ ≡ Empty)
-Waits (Tick h) r s′ = (r ≡ Err OutOfTurn) × (s′ ≡ Empty)
-Waits Audit r s′ = (r ≡ Err OutOfTurn) × (s′ ≡ Empty)
-
 abbrev pub Serves : Simulator → Frame → Result Answer FrameFault → Simulator → Type 0
-Serves Empty f r s′ = Waits f r s′
+Serves Empty f r s′ = (made : Result Simulator FrameFault) × Built f made × Stands made r s′
 Serves (Single n) f r s′ = Serves-in capacitor-store Single n f r s′
 Serves (Layered n) f r s′ = Serves-in layered-store Layered n f r s′
 Serves (Cells n) f r s′ = Serves-in bank-store Cells n f r s′

@@ -1,4 +1,5 @@
 use mathlib.Core.Path.{_≡_, refl, sym, ap, subst, _∙_}
+use mathlib.Core.Bool.{true}
 use Rattle.std.specs.declared.result.Result.the-variants.{Ok, Err}
 use Rattle.node.specs.declared.slip.Slip.{Slip}
 use Rattle.node.specs.Calls.{parked}
@@ -17,10 +18,14 @@ unreachable-requires g c κs =
 pub returns-in-Ok-park : need.returns-in-Ok-park
 returns-in-Ok-park g c =
     let same = c .in-Err-settle .ensures tt .same in
+    let recalls = c .in-Ok .ensures tt in
     let parks = c .in-Ok-park .ensures tt in
+    let serial = parks .after .0 ∙ ap (λ x. x .serial) (same .0) ∙ recalls .slip .0 in
     record {
-      calls = (Ok (c .in-Ok .slip), c .recall .last .self, c .in-Ok .ensures tt .step,
+      calls = (Ok (c .in-Ok .slip), c .recall .last .self, recalls .step,
           (Err (c .in-Err-settle .denial, c .in-Err-settle .slip), c .settle .last .self, c .in-Err-settle .ensures tt .step,
-          (subst (λ x. Extends (g .S·Store) (c .settle .last .self) (parked (x .serial) (x .amount)) (c .park .last .self)) (same .0) (parks .step), refl)));
-      same = λ s. ?;
+          (subst (λ x. Extends (g .S·Store) (c .settle .last .self) (parked (x .serial) (x .amount)) (c .park .last .self)) (same .0) (parks .step), ap Err (c .from-in-Ok-park .ensures))));
+      same = λ s. there-and-back (c .args .node .now) (c .recall .last .self) (c .park .last .self) _ (c .args .task) (c .args .serial) (store-means (g .S·Store) (c .args .node .now)) (s .whole .well)
+          (recalls .judged (store-means (g .S·Store) (c .args .node .now))) (recalls .after)
+          (subst (λ n. Marked true (c .args .serial) n (c .park .last .self)) (same .1) (subst (λ x. Marked true x (c .settle .last .self) (c .park .last .self)) serial (parks .after .1)));
     }
