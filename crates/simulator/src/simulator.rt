@@ -1,5 +1,6 @@
 // What stands between the lines of a script: no node yet, or one over a store that a frame built.
 ghost use mathlib.Core.Path.{_≡_};
+ghost use Prim.Native.Nat.{_≤_};
 ghost use Rattle.std.specs.Vec.{made};
 ghost use Rattle.store.specs.Capacitor.{capacitor-store};
 ghost use Rattle.store.specs.Bank.{bank-store};
@@ -131,6 +132,7 @@ impl Simulator {
     pub fn answer(&mut self, line: &[u8], out: &mut [u8]) -> Result<usize, FrameFault>
         ensures run { λ _. ⌜ (Reached (now (self .entry)) → Reached (now (self .exit))) ⌝ }
         ensures answers { λ r. ⌜ Answers (now (self .entry)) (now (line .entry)) (now (out .entry)) r (now (self .exit)) (now (out .exit)) ⌝ }
+        ensures within { λ r. ⌜ made r (λ len. len ≤ 160) ⌝ }
     {
         if out.len() < ROOM {
             return Err(FrameFault::ShortAnswer);
