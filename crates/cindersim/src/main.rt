@@ -13,24 +13,38 @@ const CHUNK: usize = 65_536;
 
 const ROOM: usize = 160;
 
-const HELP: &str = "cindersim: a store of harvested energy, driven by frames
+const HELP: &str = "cindersim: a node's reserves, taps and grants over harvested energy, driven by frames
 
 usage: cindersim < SCRIPT
 
 Each line of the script is a frame in upper-case hexadecimal, two digits a byte,
 numbers high byte first. Each is answered by one line on standard output.
+A field's length in bytes follows its name.
 
-  10 capacity 4                     build a capacitor
-  11 capacity 4, floor 4, part 2    build a capacitor under a floor under leakage
-  12 capacities 4, 4, 4             build a bank of three cells
-  08 harvest 4                      one tick; the answer tells loss 4 and intake 4
+  10 capacity 4                     build a node over a capacitor
+  11 capacity 4, floor 4, part 2    over a capacitor under a floor under leakage
+  12 capacities 4, 4, 4             over a bank of three cells
+  01 task 1, parent 1, number 1, owner 1, limit 4, amount 4    open a reserve
+  02 task 1, number 1                                          close it
+  03 task 1, tap 1, source 1, sink 1, n 4, d 2                 open a tap
+  05 task 1, tap 1                                             shut it
+  06 task 1, reserve 1, amount 4    grant; the answer tells serial 4
+  07 task 1, serial 4, used 4       settle; the answer tells quanta lost 4
+  08 harvest 4                      one tick; the answer tells loss 4, intake 4
+  09                                audit; the answer tells seven totals, 8 each:
+                                    received, held, open, spent, lost, granted, settled
 
 An accepted frame is answered 00 and the fields told, a refused one its number:
 
-  02  the line is not 2 to 80 digits 0-9 and A-F, two a byte
-  03  no frame has this first byte and this length
-  04  a building frame when a store stands, or another frame before
-  05  a number lies outside its range
+  02 no line of 2 to 80 digits      0A source and sink are the same
+  03 no such frame or length        0B the amount is above the limit
+  04 a node stands, or none does    0C the reserve is in use
+  05 a number out of its range      0D more is used than was granted
+  06 no such reserve or tap         0E 64 grants are open
+  07 the reserve or tap is open     0F no more ticks, or grants
+  08 no such grant is parked        10 task 1, reserve 1, deficit 4: its level is too low
+  09 the task is not the owner      11 task 1, reserve 1, height 1, kind 1, deficit 4:
+                                       a stage of the store lacks so much
 ";
 
 // A script as far as it has been read: what stands, the line that has begun, and where answers go.
