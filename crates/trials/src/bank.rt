@@ -1,8 +1,9 @@
 // Banks: the order of their cells, how many there may be, and what they may hold together.
-use crate::failure::Failure;
-use crate::failure::FailureFromOutOfRange;
-use crate::shown::Drawn;
-use crate::shown::DrawnDisplay;
+use crate::call::Call;
+use crate::call::CallDisplay;
+use crate::call::Came;
+use crate::call::CameDisplay;
+use crate::call::answer;
 use crate::shown::Made;
 use crate::shown::MadeDisplay;
 use crate::shown::Row;
@@ -11,76 +12,68 @@ use crate::tally::Tally;
 use rates::G;
 use store::Bank;
 use store::BankStore;
-use store::Store;
 
-fn figure(tally: &mut Tally<'_>) -> Result<(), Failure> {
-    let mut bank = Bank::new(&[5, 3, 2])?;
-    tally.hold("new bank of cells 5 3 2", "0 0 0", Row(bank.cells()))?;
-    tally.hold("cells 5 3 2, charge 7", "7", bank.charge(7))?;
-    tally.hold("then cells", "5 2 0", Row(bank.cells()))?;
-    tally.hold("then draw 3", "accepted", Drawn(bank.draw(3)))?;
-    tally.hold("then cells", "4 0 0", Row(bank.cells()))?;
-    tally.hold("then held", "4", bank.held())?;
-    tally.hold("then available", "4", bank.available())
+const FILLED: &[(Call, &str)] = &[
+    (Call::Charge(7), "7 leaving [5][2][0]"),
+    (Call::Draw(3), "accepted leaving [4][0][0]"),
+    (Call::Charge(20), "6 leaving [5][3][2]"),
+    (
+        Call::Draw(11),
+        "fault height 0, kind F, deficit 1 leaving [5][3][2]",
+    ),
+    (Call::Tick, "0 leaving [5][3][2]"),
+    (Call::Drain(3), "3 leaving [5][2][0]"),
+    (Call::Available, "7 leaving [5][2][0]"),
+    (Call::Drain(9), "7 leaving [0][0][0]"),
+    (Call::Capacity, "10 leaving [0][0][0]"),
+    (Call::Height, "0 leaving [0][0][0]"),
+];
+
+const EDGES: &[(&[u32], &str)] = &[
+    (&[], "refused 5"),
+    (&[0], "made"),
+    (&[1, 1, 1, 1, 1, 1, 1, 1, 1], "refused 5"),
+    (&[G - 1, 1], "made"),
+    (&[G, 1], "refused 5"),
+    (&[u32::MAX, 1], "refused 5"),
+];
+
+// A bank's calls in turn, each with its answer and what the cells then hold.
+fn script(tally: &mut Tally<'_>, capacities: &[u32], calls: &[(Call, &str)]) {
+    let row = Row(capacities);
+    match Bank::new(capacities) {
+        Ok(mut bank) => {
+            for (call, expected) in calls {
+                let came = answer(&mut bank, *call);
+                let cells = Row(bank.cells());
+                tally.hold(
+                    format_args!("cells {row}, {call}"),
+                    expected,
+                    format_args!("{came} leaving {cells}"),
+                );
+            }
+        }
+        Err(out) => tally.hold(row, "made", Made::<Bank>(Err(out))),
+    }
 }
 
-fn full(tally: &mut Tally<'_>) -> Result<(), Failure> {
-    let mut bank = Bank::new(&[5, 3, 2])?;
-    tally.hold("cells 5 3 2, charge 20", "10", bank.charge(20))?;
-    tally.hold("then cells", "5 3 2", Row(bank.cells()))?;
-    tally.hold(
-        "then draw 11",
-        "fault height 0, kind F, deficit 1",
-        Drawn(bank.draw(11)),
-    )?;
-    tally.hold("then cells", "5 3 2", Row(bank.cells()))?;
-    tally.hold("then a tick", "0", bank.tick())?;
-    tally.hold("then drain 3", "3", bank.drain(3))?;
-    tally.hold("then cells", "5 2 0", Row(bank.cells()))?;
-    tally.hold("then drain 9", "7", bank.drain(9))?;
-    tally.hold("then cells", "0 0 0", Row(bank.cells()))?;
-    tally.hold("then capacity", "10", bank.capacity())
+fn edges(tally: &mut Tally<'_>) {
+    for (capacities, expected) in EDGES {
+        let row = Row(capacities);
+        tally.hold(
+            format_args!("bank of cells {row}"),
+            expected,
+            Made(Bank::new(capacities)),
+        );
+    }
 }
 
-fn counts(tally: &mut Tally<'_>) -> Result<(), Failure> {
-    tally.hold("bank of no cell", "refused 5", Made(Bank::new(&[])))?;
-    tally.hold("bank of 1 cell", "made", Made(Bank::new(&[1])))?;
-    tally.hold("bank of 8 cells", "made", Made(Bank::new(&[1; 8])))?;
-    tally.hold("bank of 9 cells", "refused 5", Made(Bank::new(&[1; 9])))?;
-    let mut bank = Bank::new(&[1, 2, 3, 4, 5, 6, 7, 8])?;
-    tally.hold("cells 1 to 8, charge 12", "12", bank.charge(12))?;
-    tally.hold("then cells", "1 2 3 4 2 0 0 0", Row(bank.cells()))
-}
-
-fn capacities(tally: &mut Tally<'_>) -> Result<(), Failure> {
-    tally.hold(
-        "bank of one cell of capacity 0",
-        "made",
-        Made(Bank::new(&[0])),
-    )?;
-    tally.hold(
-        "bank of cells G - 1 and 1",
-        "made",
-        Made(Bank::new(&[G - 1, 1])),
-    )?;
-    tally.hold(
-        "bank of cells G and 1",
-        "refused 5",
-        Made(Bank::new(&[G, 1])),
-    )?;
-    tally.hold(
-        "bank of cells 4294967295 and 1",
-        "refused 5",
-        Made(Bank::new(&[u32::MAX, 1])),
-    )?;
-    let mut bank = Bank::new(&[0, 4])?;
-    tally.hold("cells 0 4, charge 3", "3", bank.charge(3))?;
-    tally.hold("then cells", "0 3", Row(bank.cells()))
-}
-
-pub fn run(tally: &mut Tally<'_>) -> Result<(), Failure> {
-    figure(tally)?;
-    full(tally)?;
-    counts(tally)?;
-    capacities(tally)
+pub fn run(tally: &mut Tally<'_>) {
+    script(tally, &[5, 3, 2], FILLED);
+    script(
+        tally,
+        &[1, 2, 3, 4, 0, 6, 7, 8],
+        &[(Call::Charge(12), "12 leaving [1][2][3][4][0][2][0][0]")],
+    );
+    edges(tally);
 }

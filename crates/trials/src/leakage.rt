@@ -1,146 +1,124 @@
 // Leakage: the remainder that it keeps, the edges of its part, and layers above and below it.
+use crate::call::Call;
+use crate::call::script;
 use crate::capacitor::charged;
-use crate::failure::Failure;
-use crate::failure::FailureFromAlloc;
-use crate::failure::FailureFromHandedBack;
-use crate::failure::FailureFromOutOfRange;
-use crate::failure::FailureFromUnplaced;
-use crate::shown::Drawn;
-use crate::shown::DrawnDisplay;
-use crate::shown::Row;
-use crate::shown::RowDisplay;
+use crate::floor::floored;
+use crate::shown::Made;
+use crate::shown::MadeDisplay;
 use crate::tally::Tally;
-use layers::Floor;
 use layers::FloorStore;
 use layers::Leakage;
 use layers::LeakageStore;
 use rates::G;
-use std::alloc::AllocError;
-use std::alloc::Global;
+use rates::OutOfRange;
 use store::CapacitorStore;
 use store::Store;
 
-// What the store loses at each of its next ticks.
-fn losses<S: Store>(heap: Global, store: &mut S, ticks: u8) -> Result<Vec<u32>, AllocError> {
-    let mut losses = Vec::new(heap);
-    for _ in 0..ticks {
-        losses.push(store.tick())?;
-    }
-    Ok(losses)
-}
+const FIGURE: &[(Call, &str)] = &[
+    (Call::Tick, "2"),
+    (Call::Tick, "2"),
+    (Call::Held, "21"),
+    (Call::Tick, "2"),
+];
 
-fn figure(tally: &mut Tally<'_>) -> Result<(), Failure> {
-    let mut leakage = Leakage::new(charged(100, 25)?, 1_000)?;
-    let first = losses(tally.heap(), &mut leakage, 2)?;
-    tally.hold(
-        "leakage 1000 over 25, two ticks",
-        "2 2",
-        Row(first.as_slice()),
-    )?;
-    tally.hold("then held", "21", leakage.held())?;
-    let next = losses(tally.heap(), &mut leakage, 4)?;
-    tally.hold("then four ticks", "2 2 2 2", Row(next.as_slice()))?;
-    tally.hold("then held", "13", leakage.held())?;
-    let last = losses(tally.heap(), &mut leakage, 5)?;
-    tally.hold("then five ticks", "1 1 1 1 1", Row(last.as_slice()))?;
-    tally.hold("then held", "8", leakage.held())
-}
+// A part, what is held, and the losses of two ticks.
+const PARTS: &[(u16, u32, &str, &str)] = &[
+    (0, 25, "0", "0"),
+    (1, G, "100000", "99990"),
+    (9_999, 1, "0", "1"),
+    (10_000, G, "1000000000", "0"),
+];
 
-fn parts(tally: &mut Tally<'_>) -> Result<(), Failure> {
-    let mut none = Leakage::new(charged(100, 25)?, 0)?;
-    let kept = losses(tally.heap(), &mut none, 3)?;
-    tally.hold(
-        "leakage 0 over 25, three ticks",
-        "0 0 0",
-        Row(kept.as_slice()),
-    )?;
-    let mut all = Leakage::new(charged(100, 25)?, 10_000)?;
-    let gone = losses(tally.heap(), &mut all, 2)?;
-    tally.hold(
-        "leakage 10000 over 25, two ticks",
-        "25 0",
-        Row(gone.as_slice()),
-    )?;
-    let mut most = Leakage::new(charged(100, 1)?, 9_999)?;
-    let late = losses(tally.heap(), &mut most, 2)?;
-    tally.hold(
-        "leakage 9999 over 1, two ticks",
-        "0 1",
-        Row(late.as_slice()),
-    )?;
-    let mut least = Leakage::new(charged(G, G)?, 1)?;
-    tally.hold("leakage 1 over G, a tick", "100000", least.tick())?;
-    let mut largest = Leakage::new(charged(G, G)?, 10_000)?;
-    tally.hold("leakage 10000 over G, a tick", "1000000000", largest.tick())
-}
+const OVER_FLOOR: &[(Call, &str)] = &[
+    (Call::Height, "2"),
+    (Call::Draw(3), "fault height 1, kind R, deficit 1"),
+    (Call::Draw(7), "fault height 0, kind C, deficit 1"),
+    (Call::Tick, "3"),
+    (Call::Available, "0"),
+    (Call::Tick, "1"),
+    (Call::Tick, "1"),
+    (Call::Held, "1"),
+];
 
-// A refused part is told with its number, and the store comes back as it was.
-fn refused(tally: &mut Tally<'_>, what: &str, part: u16) -> Result<(), Failure> {
-    match Leakage::new(charged(100, 25)?, part) {
-        Ok(_) => tally.hold(what, "refused 5", "made"),
-        Err((out, below)) => {
-            let number = out.number();
-            tally.hold(what, "refused 5", format_args!("refused {number}"))?;
-            tally.hold("then the store handed back holds", "25", below.held())
-        }
+const UNDER_FLOOR: &[(Call, &str)] = &[
+    (Call::Tick, "3"),
+    (Call::Draw(1), "fault height 2, kind R, deficit 1"),
+];
+
+const TWICE: &[(Call, &str)] = &[(Call::Tick, "19"), (Call::Held, "81")];
+
+// Leakage over the store, if there is one and the part is in its range.
+fn leaking<S: Drop>(below: Result<S, OutOfRange>, part: u16) -> Result<Leakage<S>, OutOfRange> {
+    match Leakage::new(below?, part) {
+        Ok(leakage) => Ok(leakage),
+        Err((out, _)) => Err(out),
     }
 }
 
-fn over_floor(tally: &mut Tally<'_>) -> Result<(), Failure> {
-    let mut store = Leakage::new(Floor::new(charged(10, 6)?, 4), 5_000)?;
-    tally.hold(
-        "leakage 5000 over floor 4 over 6, available",
-        "2",
-        store.available(),
-    )?;
-    tally.hold(
-        "leakage 5000 over floor 4 over 6, draw 3",
-        "fault height 1, kind R, deficit 1",
-        Drawn(store.draw(3)),
-    )?;
-    tally.hold(
-        "leakage 5000 over floor 4 over 6, draw 7",
-        "fault height 0, kind C, deficit 1",
-        Drawn(store.draw(7)),
-    )?;
-    tally.hold(
-        "leakage 5000 over floor 4 over 6, a tick",
-        "3",
-        store.tick(),
-    )?;
-    tally.hold("then held", "3", store.held())?;
-    tally.hold("then available", "0", store.available())?;
-    tally.hold("then a tick", "1", store.tick())?;
-    tally.hold("then a tick", "1", store.tick())?;
-    tally.hold("then held", "1", store.held())
+fn parts(tally: &mut Tally<'_>) {
+    for (part, held, first, second) in PARTS {
+        script(
+            tally,
+            format_args!("leakage {part} over {held}"),
+            leaking(charged(*held, *held), *part),
+            &[(Call::Tick, *first), (Call::Tick, *second)],
+        );
+    }
 }
 
-fn stacked(tally: &mut Tally<'_>) -> Result<(), Failure> {
-    let mut under = Floor::new(Leakage::new(charged(10, 6)?, 5_000)?, 4);
-    tally.hold(
-        "floor 4 over leakage 5000 over 6, a tick",
-        "3",
-        under.tick(),
-    )?;
-    tally.hold(
-        "then draw 1",
-        "fault height 2, kind R, deficit 1",
-        Drawn(under.draw(1)),
-    )?;
-    let mut twice = Leakage::new(Leakage::new(charged(100, 100)?, 1_000)?, 1_000)?;
-    tally.hold(
-        "leakage 1000 over leakage 1000 over 100, a tick",
-        "19",
-        twice.tick(),
-    )?;
-    tally.hold("then held", "81", twice.held())
+// What the store holds that comes back when the part is refused.
+fn handed_back(part: u16) -> Option<u32> {
+    let Ok(below) = charged(25, 25) else {
+        return None;
+    };
+    match Leakage::new(below, part) {
+        Ok(_) => None,
+        Err((_, below)) => Some(below.held()),
+    }
 }
 
-pub fn run(tally: &mut Tally<'_>) -> Result<(), Failure> {
-    figure(tally)?;
-    parts(tally)?;
-    refused(tally, "leakage 10001 over 25", 10_001)?;
-    refused(tally, "leakage 65535 over 25", u16::MAX)?;
-    over_floor(tally)?;
-    stacked(tally)
+fn refused(tally: &mut Tally<'_>) {
+    tally.hold(
+        "leakage 10001 over 25",
+        "refused 5",
+        Made(leaking(charged(25, 25), 10_001)),
+    );
+    tally.hold(
+        "leakage 10001 over 25, held of what it hands back",
+        "25",
+        handed_back(10_001).unwrap_or(0),
+    );
+}
+
+fn stacked(tally: &mut Tally<'_>) {
+    script(
+        tally,
+        "leakage 5000 over floor 4 over 6",
+        leaking(floored(charged(10, 6), 4), 5_000),
+        OVER_FLOOR,
+    );
+    script(
+        tally,
+        "floor 4 over leakage 5000 over 6",
+        floored(leaking(charged(10, 6), 5_000), 4),
+        UNDER_FLOOR,
+    );
+    script(
+        tally,
+        "leakage 1000 over leakage 1000 over 100",
+        leaking(leaking(charged(100, 100), 1_000), 1_000),
+        TWICE,
+    );
+}
+
+pub fn run(tally: &mut Tally<'_>) {
+    script(
+        tally,
+        "leakage 1000 over 25",
+        leaking(charged(100, 25), 1_000),
+        FIGURE,
+    );
+    parts(tally);
+    refused(tally);
+    stacked(tally);
 }
