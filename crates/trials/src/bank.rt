@@ -1,79 +1,63 @@
 // Banks: the order of their cells, how many there may be, and what they may hold together.
 use crate::call::Call;
-use crate::call::CallDisplay;
-use crate::call::Came;
-use crate::call::CameDisplay;
-use crate::call::answer;
-use crate::shown::Made;
-use crate::shown::MadeDisplay;
-use crate::shown::Row;
-use crate::shown::RowDisplay;
+use crate::call::script;
+use crate::shown::refusal;
 use crate::tally::Tally;
 use rates::G;
 use store::Bank;
 use store::BankStore;
+use store::Store;
 
 const FILLED: &[(Call, &str)] = &[
-    (Call::Charge(7), "7 leaving [5][2][0]"),
-    (Call::Draw(3), "accepted leaving [4][0][0]"),
-    (Call::Charge(20), "6 leaving [5][3][2]"),
-    (
-        Call::Draw(11),
-        "fault height 0, kind F, deficit 1 leaving [5][3][2]",
-    ),
-    (Call::Tick, "0 leaving [5][3][2]"),
-    (Call::Drain(3), "3 leaving [5][2][0]"),
-    (Call::Available, "7 leaving [5][2][0]"),
-    (Call::Drain(9), "7 leaving [0][0][0]"),
-    (Call::Capacity, "10 leaving [0][0][0]"),
-    (Call::Height, "0 leaving [0][0][0]"),
+    (Call::Height, "0"),
+    (Call::Capacity, "10"),
+    (Call::Charge(20), "10"),
+    (Call::Draw(11), "fault height 0, kind F, deficit 1"),
+    (Call::Tick, "0"),
+    (Call::Drain(3), "3"),
+    (Call::Available, "7"),
+    (Call::Drain(9), "7"),
 ];
 
 const EDGES: &[(&[u32], &str)] = &[
-    (&[], "refused 5"),
-    (&[0], "made"),
-    (&[1, 1, 1, 1, 1, 1, 1, 1, 1], "refused 5"),
-    (&[G - 1, 1], "made"),
-    (&[G, 1], "refused 5"),
-    (&[u32::MAX, 1], "refused 5"),
+    (&[], "5"),
+    (&[0], "0"),
+    (&[1, 1, 1, 1, 1, 1, 1, 1], "0"),
+    (&[1, 1, 1, 1, 1, 1, 1, 1, 1], "5"),
+    (&[G - 1, 1], "0"),
+    (&[G, 1], "5"),
+    (&[u32::MAX, 1], "5"),
 ];
 
-// A bank's calls in turn, each with its answer and what the cells then hold.
-fn script(tally: &mut Tally<'_>, capacities: &[u32], calls: &[(Call, &str)]) {
-    let row = Row(capacities);
-    match Bank::new(capacities) {
-        Ok(mut bank) => {
-            for (call, expected) in calls {
-                let came = answer(&mut bank, *call);
-                let cells = Row(bank.cells());
-                tally.hold(
-                    format_args!("cells {row}, {call}"),
-                    expected,
-                    format_args!("{came} leaving {cells}"),
-                );
-            }
-        }
-        Err(out) => tally.hold(row, "made", Made::<Bank>(Err(out))),
-    }
+fn cells(tally: &mut Tally<'_>) {
+    let Ok(mut bank) = Bank::new(&[5, 3, 2]) else {
+        tally.hold("cells 5, 3, 2", "made", "refused");
+        return;
+    };
+    let _ = bank.charge(7);
+    let filled = bank.cells();
+    tally.hold(
+        "cells 5, 3, 2 charged with 7",
+        "[5, 2, 0]",
+        format_args!("{filled:?}"),
+    );
+    let _ = bank.draw(3);
+    let left = bank.cells();
+    tally.hold("then draw 3", "[4, 0, 0]", format_args!("{left:?}"));
 }
 
 fn edges(tally: &mut Tally<'_>) {
     for (capacities, expected) in EDGES {
-        let row = Row(capacities);
         tally.hold(
-            format_args!("bank of cells {row}"),
+            format_args!("refusal of a bank of {capacities:?}"),
             expected,
-            Made(Bank::new(capacities)),
+            refusal(Bank::new(capacities)),
         );
     }
 }
 
 pub fn run(tally: &mut Tally<'_>) {
-    script(tally, &[5, 3, 2], FILLED);
-    script(
-        tally,
-        &[1, 2, 3, 4, 0, 6, 7, 8],
-        &[(Call::Charge(12), "12 leaving [1][2][3][4][0][2][0][0]")],
-    );
+    cells(tally);
+    script(tally, "cells 5, 3, 2", Bank::new(&[5, 3, 2]), FILLED);
     edges(tally);
 }

@@ -1,6 +1,4 @@
 // Calls of a store, written down so that a table can hold them.
-use crate::shown::Made;
-use crate::shown::MadeDisplay;
 use crate::tally::Tally;
 use rates::OutOfRange;
 use std::fmt;
@@ -85,13 +83,12 @@ pub fn script<S: Store + Drop>(
     new: Result<S, OutOfRange>,
     calls: &[(Call, &str)],
 ) {
-    match new {
-        Ok(mut store) => {
-            for (call, expected) in calls {
-                let came = answer(&mut store, *call);
-                tally.hold(format_args!("{name}, {call}"), expected, came);
-            }
-        }
-        Err(out) => tally.hold(name, "made", Made::<S>(Err(out))),
+    let Ok(mut store) = new else {
+        tally.hold(name, "made", "refused");
+        return;
+    };
+    for (call, expected) in calls {
+        let came = answer(&mut store, *call);
+        tally.hold(format_args!("{name}, {call}"), expected, came);
     }
 }

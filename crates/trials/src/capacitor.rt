@@ -1,8 +1,7 @@
 // Capacitors: the edges of the capacity, a charge above the room, refused and accepted draws, drains and ticks.
 use crate::call::Call;
 use crate::call::script;
-use crate::shown::Made;
-use crate::shown::MadeDisplay;
+use crate::shown::refusal;
 use crate::tally::Tally;
 use rates::G;
 use rates::OutOfRange;
@@ -54,8 +53,8 @@ pub fn run(tally: &mut Tally<'_>) {
         &[(Call::Charge(u32::MAX), "1000000000")],
     );
     tally.hold(
-        "capacitor of G + 1",
-        "refused 5",
-        Made(Capacitor::new(G + 1)),
+        "refusal of a capacitor of G + 1",
+        "5",
+        refusal(Capacitor::new(G + 1)),
     );
 }

@@ -27,14 +27,6 @@ const ABOVE: &[(Call, &str)] = &[
     (Call::Held, "10"),
 ];
 
-const NESTED: &[(Call, &str)] = &[
-    (Call::Draw(5), "fault height 2, kind R, deficit 1"),
-    (Call::Draw(7), "fault height 1, kind R, deficit 1"),
-    (Call::Draw(11), "fault height 0, kind C, deficit 1"),
-    (Call::Draw(4), "accepted"),
-    (Call::Available, "0"),
-];
-
 // A floor over the store, if there is one.
 pub fn floored<S>(below: Result<S, OutOfRange>, amount: u32) -> Result<Floor<S>, OutOfRange> {
     Ok(Floor::new(below?, amount))
@@ -52,11 +44,5 @@ pub fn run(tally: &mut Tally<'_>) {
         "floor 4294967295 over 3",
         floored(charged(10, 3), u32::MAX),
         ABOVE,
-    );
-    script(
-        tally,
-        "floor 2 over floor 4 over 10",
-        floored(floored(charged(10, 10), 4), 2),
-        NESTED,
     );
 }

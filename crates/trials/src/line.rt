@@ -2,7 +2,6 @@
 use crate::shown::Written;
 use crate::shown::WrittenDisplay;
 use crate::tally::Tally;
-use frame::Line;
 use simulator::Simulator;
 
 const ROOM: usize = 160;
@@ -92,14 +91,6 @@ fn session(tally: &mut Tally<'_>, lines: &[(&str, &str)]) {
     }
 }
 
-fn over_long(tally: &mut Tally<'_>) {
-    let mut line = Line::new();
-    for _ in 0..1_000 {
-        line.push(b'0');
-    }
-    tally.hold("1000 digits read, kept", "81", line.as_slice().len());
-}
-
 // How many bytes no answer was written over.
 fn untouched(out: &[u8]) -> u8 {
     let mut count: u8 = 0;
@@ -111,36 +102,23 @@ fn untouched(out: &[u8]) -> u8 {
     count
 }
 
-// A line into an array that is too short, and then into the shortest that will do.
-fn arrays(tally: &mut Tally<'_>) {
-    let mut simulator = Simulator::new();
-    let line = &b"1000000064"[..];
-    let mut short = [UNTOUCHED; ROOM - 1];
+// A line into an array that is one byte too short.
+fn short(tally: &mut Tally<'_>) {
+    let mut out = [UNTOUCHED; ROOM - 1];
     told(
         tally,
-        &mut simulator,
+        &mut Simulator::new(),
         "into 159 bytes",
-        line,
-        &mut short,
+        b"1000000064",
+        &mut out,
         "refused 1",
     );
-    tally.hold("then bytes untouched", "159", untouched(&short));
-    let mut out = [UNTOUCHED; ROOM];
-    told(
-        tally,
-        &mut simulator,
-        "into 160 bytes",
-        line,
-        &mut out,
-        "00$",
-    );
-    tally.hold("then bytes untouched", "157", untouched(&out));
+    tally.hold("then bytes untouched", "159", untouched(&out));
 }
 
 pub fn run(tally: &mut Tally<'_>) {
     session(tally, CAPACITOR);
     session(tally, LAYERED);
     session(tally, BANK);
-    over_long(tally);
-    arrays(tally);
+    short(tally);
 }

@@ -2,32 +2,11 @@
 use rates::OutOfRange;
 use std::fmt;
 
-// What became of a constructor's call: `made`, or `refused` with the number.
-#[derive(Drop)]
-pub struct Made<T>(pub Result<T, OutOfRange>);
-
-pub impl<T> fmt::Display for Made<T> as MadeDisplay {
-    fn fmt<W: fmt::Write>(&self, f: &mut fmt::Formatter<W>) -> fmt::Result {
-        match &self.0 {
-            Ok(_) => f.write_str("made"),
-            Err(out) => {
-                let number = out.number();
-                write!(f, "refused {number}")
-            }
-        }
-    }
-}
-
-// Amounts, each in its box.
-#[derive(Drop)]
-pub struct Row<'a>(pub &'a [u32]);
-
-pub impl fmt::Display for Row<'_> as RowDisplay {
-    fn fmt<W: fmt::Write>(&self, f: &mut fmt::Formatter<W>) -> fmt::Result {
-        for amount in self.0 {
-            write!(f, "[{amount}]")?;
-        }
-        Ok(())
+// The number by which a constructor refuses, or 0 where it makes what is asked.
+pub fn refusal<T: Drop>(made: Result<T, OutOfRange>) -> u8 {
+    match made {
+        Ok(_) => 0,
+        Err(out) => out.number(),
     }
 }
 
