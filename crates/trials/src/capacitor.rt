@@ -42,12 +42,6 @@ pub fn run(tally: &mut Tally<'_>) {
     script(tally, "capacitor of 10", Capacitor::new(10), SMALL);
     script(
         tally,
-        "capacitor of 0",
-        Capacitor::new(0),
-        &[(Call::Charge(5), "0")],
-    );
-    script(
-        tally,
         "capacitor of G",
         Capacitor::new(G),
         &[(Call::Charge(u32::MAX), "1000000000")],

@@ -8,7 +8,6 @@ use crate::tally::Tally;
 use layers::FloorStore;
 use layers::Leakage;
 use layers::LeakageStore;
-use rates::G;
 use rates::OutOfRange;
 use store::CapacitorStore;
 
@@ -18,10 +17,6 @@ const FIGURE: &[(Call, &str)] = &[
     (Call::Held, "21"),
     (Call::Tick, "2"),
 ];
-
-const ALL: &[(Call, &str)] = &[(Call::Tick, "1000000000"), (Call::Tick, "0")];
-
-const NEARLY_ALL: &[(Call, &str)] = &[(Call::Tick, "0"), (Call::Tick, "1")];
 
 // The stages begin at 10, 6, 6 and 4.
 const DEEP: &[(Call, &str)] = &[
@@ -54,18 +49,6 @@ pub fn run(tally: &mut Tally<'_>) {
         "leakage 1000 over 25",
         leaking(charged(100, 25), 1_000),
         FIGURE,
-    );
-    script(
-        tally,
-        "leakage 10000 over G",
-        leaking(charged(G, G), 10_000),
-        ALL,
-    );
-    script(
-        tally,
-        "leakage 9999 over 1",
-        leaking(charged(1, 1), 9_999),
-        NEARLY_ALL,
     );
     tally.hold(
         "refusal of leakage 10001",

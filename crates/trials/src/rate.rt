@@ -48,7 +48,7 @@ pub fn run(tally: &mut Tally<'_>) {
     for (n, d, r, ticks, expected) in RATES {
         let rate = Rate::resume(*n, *d, *r);
         tally.hold(
-            format_args!("rate {n}/{d} with remainder {r}, dues of {ticks} ticks"),
+            format_args!("dues of {n}/{d} with remainder {r}"),
             expected,
             Dues {
                 rate,
