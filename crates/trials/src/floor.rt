@@ -1,87 +1,48 @@
 // Floors: what they keep from a draw, whose fault is told, and what they do not stop.
+use crate::call::Call;
+use crate::call::script;
 use crate::capacitor::charged;
-use crate::failure::Failure;
-use crate::failure::FailureFromOutOfRange;
-use crate::shown::Drawn;
-use crate::shown::DrawnDisplay;
 use crate::tally::Tally;
 use layers::Floor;
 use layers::FloorStore;
+use rates::OutOfRange;
 use store::CapacitorStore;
-use store::Store;
 
-fn figure(tally: &mut Tally<'_>) -> Result<(), Failure> {
-    let mut floor = Floor::new(charged(10, 6)?, 4);
-    tally.hold("floor 4 over 6, available", "2", floor.available())?;
-    tally.hold(
-        "floor 4 over 6, draw 3",
-        "fault height 1, kind R, deficit 1",
-        Drawn(floor.draw(3)),
-    )?;
-    tally.hold(
-        "floor 4 over 6, draw 6",
-        "fault height 1, kind R, deficit 4",
-        Drawn(floor.draw(6)),
-    )?;
-    tally.hold(
-        "floor 4 over 6, draw 7",
-        "fault height 0, kind C, deficit 1",
-        Drawn(floor.draw(7)),
-    )?;
-    tally.hold("then held", "6", floor.held())?;
-    tally.hold("then available", "2", floor.available())?;
-    tally.hold("floor 4 over 6, draw 2", "accepted", Drawn(floor.draw(2)))?;
-    tally.hold("then held", "4", floor.held())?;
-    tally.hold("then available", "0", floor.available())?;
-    tally.hold("then draw 0", "accepted", Drawn(floor.draw(0)))
+const OVER_SIX: &[(Call, &str)] = &[
+    (Call::Height, "1"),
+    (Call::Available, "2"),
+    (Call::Draw(3), "fault height 1, kind R, deficit 1"),
+    (Call::Draw(7), "fault height 0, kind C, deficit 1"),
+    (Call::Draw(2), "accepted"),
+    (Call::Held, "4"),
+    (Call::Draw(0), "accepted"),
+    (Call::Draw(1), "fault height 1, kind R, deficit 1"),
+];
+
+const ABOVE: &[(Call, &str)] = &[
+    (Call::Available, "0"),
+    (Call::Draw(1), "fault height 1, kind R, deficit 1"),
+    (Call::Drain(2), "2"),
+    (Call::Charge(20), "9"),
+    (Call::Held, "10"),
+];
+
+// A floor over the store, if there is one.
+pub fn floored<S>(below: Result<S, OutOfRange>, amount: u32) -> Result<Floor<S>, OutOfRange> {
+    Ok(Floor::new(below?, amount))
 }
 
-fn above(tally: &mut Tally<'_>) -> Result<(), Failure> {
-    let mut floor = Floor::new(charged(10, 3)?, u32::MAX);
-    tally.hold("floor 4294967295 over 3, available", "0", floor.available())?;
-    tally.hold(
-        "floor 4294967295 over 3, draw 1",
-        "fault height 1, kind R, deficit 1",
-        Drawn(floor.draw(1)),
-    )?;
-    tally.hold("floor 4294967295 over 3, drain 2", "2", floor.drain(2))?;
-    tally.hold("then held", "1", floor.held())?;
-    tally.hold("then charge 20", "9", floor.charge(20))?;
-    tally.hold("then held", "10", floor.held())
-}
-
-fn nested(tally: &mut Tally<'_>) -> Result<(), Failure> {
-    let mut floors = Floor::new(Floor::new(charged(10, 10)?, 4), 2);
-    tally.hold(
-        "floor 2 over floor 4 over 10, available",
-        "4",
-        floors.available(),
-    )?;
-    tally.hold(
-        "floor 2 over floor 4 over 10, draw 5",
-        "fault height 2, kind R, deficit 1",
-        Drawn(floors.draw(5)),
-    )?;
-    tally.hold(
-        "floor 2 over floor 4 over 10, draw 7",
-        "fault height 1, kind R, deficit 1",
-        Drawn(floors.draw(7)),
-    )?;
-    tally.hold(
-        "floor 2 over floor 4 over 10, draw 11",
-        "fault height 0, kind C, deficit 1",
-        Drawn(floors.draw(11)),
-    )?;
-    tally.hold(
-        "floor 2 over floor 4 over 10, draw 4",
-        "accepted",
-        Drawn(floors.draw(4)),
-    )?;
-    tally.hold("then available", "0", floors.available())
-}
-
-pub fn run(tally: &mut Tally<'_>) -> Result<(), Failure> {
-    figure(tally)?;
-    above(tally)?;
-    nested(tally)
+pub fn run(tally: &mut Tally<'_>) {
+    script(
+        tally,
+        "floor 4 over 6",
+        floored(charged(10, 6), 4),
+        OVER_SIX,
+    );
+    script(
+        tally,
+        "floor 4294967295 over 3",
+        floored(charged(10, 3), u32::MAX),
+        ABOVE,
+    );
 }

@@ -1,29 +1,24 @@
 // Worked figures and boundary cases of the libraries, each told beside what the rules expect of it.
 mod bank;
+mod call;
 mod capacitor;
-mod failure;
 mod floor;
-mod height;
 mod leakage;
 mod line;
 mod rate;
 mod shown;
 mod tally;
 
-use failure::Failure;
+use std::io;
 use tally::Tally;
 
-fn run(tally: &mut Tally<'_>) -> Result<(), Failure> {
-    rate::run(tally)?;
-    capacitor::run(tally)?;
-    bank::run(tally)?;
-    floor::run(tally)?;
-    leakage::run(tally)?;
-    height::run(tally)?;
-    line::run(tally)?;
+fn main(rt: LibcRuntime) -> io::Result<()> {
+    let mut tally = Tally::new(&rt);
+    rate::run(&mut tally);
+    capacitor::run(&mut tally);
+    bank::run(&mut tally);
+    floor::run(&mut tally);
+    leakage::run(&mut tally);
+    line::run(&mut tally);
     tally.tell()
-}
-
-fn main(rt: LibcRuntime) -> Result<(), Failure> {
-    run(&mut Tally::new(&rt))
 }

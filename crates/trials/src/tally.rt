@@ -1,11 +1,4 @@
 // Tells each trial beside what is expected of it, and counts those that came so.
-ghost use mathlib.Core.Path.{_≡_};
-ghost use mathlib.Core.Bool.{cond};
-ghost use Prim.Native.Nat.{_+_, _-_, _^_, min};
-use crate::failure::Failure;
-use crate::failure::FailureFromAlloc;
-use crate::failure::FailureFromIo;
-use std::alloc::Global;
 use std::fmt::Display;
 use std::io;
 
@@ -14,6 +7,8 @@ pub struct Tally<'a> {
     rt: &'a LibcRuntime,
     run: u32,
     as_expected: u32,
+    // The first failure to print, after which no trial is told.
+    told: io::Result<()>,
 }
 
 impl Tally<'_> {
@@ -22,44 +17,31 @@ impl Tally<'_> {
             rt,
             run: 0,
             as_expected: 0,
+            told: Ok(()),
         }
     }
 
-    pub fn heap(&self) -> Global {
-        self.rt.alloc()
+    fn print(&mut self, what: impl Display + Drop, expected: &str, came: &str) {
+        if self.told.is_ok() {
+            self.told = println!(self.rt, "{what}: expected {expected}, came {came}");
+        }
     }
 
-    // Counts one trial more, up to the largest `u32`.
-    fn count(&mut self, met: bool)
-        ensures run { λ _. ⌜ now (self .exit) .run ≡ min (now (self .entry) .run + 1) (2 ^ 32 - 1) ⌝ }
-        ensures met { λ _. ⌜ now (self .exit) .«as_expected» ≡ min (now (self .entry) .«as_expected» + cond met 1 0) (2 ^ 32 - 1) ⌝ }
-    {
+    // One trial, told as `what: expected .., came ..`; for want of memory it is counted and not told.
+    pub fn hold(&mut self, what: impl Display + Drop, expected: &str, came: impl Display + Drop) {
         self.run = self.run.saturating_add(1);
-        self.as_expected = self.as_expected.saturating_add(u32::from(met));
-    }
-
-    fn print(&self, what: &str, expected: &str, came: &str) -> io::Result<()> {
-        println!(self.rt, "{what}: expected {expected}, came {came}")
-    }
-
-    // One trial, told as `what: expected .., came ..`.
-    pub fn hold(
-        &mut self,
-        what: &str,
-        expected: &str,
-        came: impl Display + Drop,
-    ) -> Result<(), Failure> {
-        let came = came.to_string(self.heap())?;
-        self.count(came == expected);
-        self.print(what, expected, came.as_str())?;
-        Ok(())
+        let Ok(came) = came.to_string(self.rt.alloc()) else {
+            return;
+        };
+        self.as_expected = self.as_expected.saturating_add(u32::from(came == expected));
+        self.print(what, expected, came.as_str());
     }
 
     // The last line: how many came as expected.
-    pub fn tell(&self) -> Result<(), Failure> {
+    pub fn tell(self) -> io::Result<()> {
+        self.told?;
         let run = self.run;
         let as_expected = self.as_expected;
-        println!(self.rt, "{as_expected} of {run} came as expected")?;
-        Ok(())
+        println!(self.rt, "{as_expected} of {run} came as expected")
     }
 }
