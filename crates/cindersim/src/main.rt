@@ -13,7 +13,8 @@ const CHUNK: usize = 65_536;
 
 const ROOM: usize = 160;
 
-const HELP: &str = "cindersim: a node's reserves, taps and grants over harvested energy, driven by frames
+const HELP: &str =
+    "cindersim: a node's reserves, taps and grants over harvested energy, driven by frames
 
 usage: cindersim < SCRIPT
 

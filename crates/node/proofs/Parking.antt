@@ -43,7 +43,7 @@ pub there-and-back : {S : Type 0} (n k m : Node S) (held task serial : ℕ) (x :
 there-and-back n k m held task serial x w clear out back =
     let parked : fits-parked serial (open-in (n .grants)) ≡ true = not-false _ (cleared (tests x (standing-of n) (recall task serial)) clear .0) in
     let grants : m .grants ≡ n .grants = same-grants (n .grants) (k .grants) (m .grants) serial (marked-back 0 (n .grants .serials) serial (open-in (n .grants)) (w .ledger) parked)
-        (out .grants) (out .count) (out .further) (out .serials) (back .grants) (back .count) (back .further) (back .serials) in
+    (out .grants) (out .count) (out .further) (out .serials) (back .grants) (back .count) (back .further) (back .serials) in
     back .others
     ∙ ap (λ y. record { store = y .store; reserves = y .reserves; taps = y .taps; grants = m .grants; books = y .books; ticks = y .ticks }) (out .others)
     ∙ ap (λ y. record { store = n .store; reserves = n .reserves; taps = n .taps; grants = y; books = n .books; ticks = n .ticks }) grants

@@ -32,7 +32,12 @@ fn told(result: Result<(u32, u32), Denial>) -> Result<Answer, FrameFault>
 }
 
 // A grant whose slip is parked: a slip that was just given is out, so its parking is not refused.
-fn grant<S: Store>(node: &mut Node<S>, task: u8, reserve: u8, amount: u32) -> Result<Answer, FrameFault>
+fn grant<S: Store>(
+    node: &mut Node<S>,
+    task: u8,
+    reserve: u8,
+    amount: u32,
+) -> Result<Answer, FrameFault>
     ensures calls { λ r. ⌜ Grants (S·Store) (now (node .entry)) task reserve amount r (now (node .exit)) ⌝ }
     ensures same { λ r. ⌜ refused r (λ _. now (node .exit) ≡ now (node .entry)) ⌝ }
 {
@@ -47,7 +52,12 @@ fn grant<S: Store>(node: &mut Node<S>, task: u8, reserve: u8, amount: u32) -> Re
 }
 
 // A recall, a settlement and, where that is refused, a parking: the slip is out between them.
-fn settle<S: Store>(node: &mut Node<S>, task: u8, serial: u32, used: u32) -> Result<Answer, FrameFault>
+fn settle<S: Store>(
+    node: &mut Node<S>,
+    task: u8,
+    serial: u32,
+    used: u32,
+) -> Result<Answer, FrameFault>
     ensures calls { λ r. ⌜ Settles (S·Store) (now (node .entry)) task serial used r (now (node .exit)) ⌝ }
     ensures same { λ r. ⌜ (Sound-node (S·Store) (now (node .entry)) → refused r (λ _. now (node .exit) ≡ now (node .entry))) ⌝ }
 {
@@ -98,6 +108,8 @@ pub(crate) fn serve<S: Store>(node: &mut Node<S>, frame: Frame) -> Result<Answer
             told(node.tick(harvest, &mut report))
         }
         Frame::Audit => Ok(Answer::Audited(node.audit())),
-        Frame::Capacitor { .. } | Frame::Layered { .. } | Frame::Bank { .. } => Err(FrameFault::OutOfTurn),
+        Frame::Capacitor { .. } | Frame::Layered { .. } | Frame::Bank { .. } => Err(
+            FrameFault::OutOfTurn,
+        ),
     }
 }

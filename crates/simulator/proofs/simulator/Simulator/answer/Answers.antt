@@ -29,13 +29,18 @@ short-enough a out r is = subst (λ x. made x (λ len. len ≤ 160)) (sym is) (b
 pub returns : need.returns
 returns c =
     let told : c .match-reply .answer ≡ answer-of (c .reply .result) =
-        elim (c .match-reply .came) [ in-Ok w ↦ w .answer-is ∙ ap answer-of (sym (w .in-Ok .is)) | in-Err w ↦ w .answer-is ∙ ap answer-of (sym (w .in-Err .is)) ] in
+    elim (c .match-reply .came) [ in-Ok w ↦ w .answer-is ∙ ap answer-of (sym (w .in-Ok .is)) | in-Err w ↦ w .answer-is ∙ ap answer-of (sym (w .in-Err .is)) ] in
     record {
       run = stays-reached (c .args .self .now) (c .args .line .now) (c .reply .result) (c .reply .last .self) (c .reply .ensures .replies);
       answers = record {
         short = λ less. absurd (omega arith);
-        long = λ _. (c .reply .result, c .reply .ensures .replies, (c .write-answer .ensures .result ∙ ap (λ a. answered a (c .args .out .now)) told),
-            (c .write-answer .ensures .after ∙ ap (λ a. after-answer a (c .args .out .now)) told), c .reply .ensures .same);
+        long = λ _. (
+          c .reply .result,
+          c .reply .ensures .replies,
+          (c .write-answer .ensures .result ∙ ap (λ a. answered a (c .args .out .now)) told),
+          (c .write-answer .ensures .after ∙ ap (λ a. after-answer a (c .args .out .now)) told),
+          c .reply .ensures .same,
+        );
       };
       within = short-enough (c .match-reply .answer) (c .args .out .now) (c .write-answer .result) (c .write-answer .ensures .result);
     }
