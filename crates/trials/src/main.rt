@@ -6,6 +6,7 @@ mod floor;
 mod leakage;
 mod line;
 mod rate;
+mod report;
 mod shown;
 mod tally;
 
@@ -19,6 +20,7 @@ fn main(rt: LibcRuntime) -> io::Result<()> {
     bank::run(&mut tally);
     floor::run(&mut tally);
     leakage::run(&mut tally);
+    report::run(&mut tally);
     line::run(&mut tally);
     tally.tell()
 }
