@@ -109,6 +109,36 @@ const LOSS: &[(&str, &str)] = &[
     ),
 ];
 
+// A capacitor of 0 takes nothing.
+const NO_ROOM: &[(&str, &str)] = &[
+    ("1000000000", "00$"),
+    ("0800000005", "000000000000000000$"),
+    (
+        "09",
+        "000000000000000005000000000000000000000000000000000000000000000000000000000000000500000000000000000000000000000000$",
+    ),
+];
+
+// Leakage of 10,000 parts loses all that was held, and not this tick's harvest.
+const ALL_LEAKS: &[(&str, &str)] = &[
+    ("110000001E000000002710", "00$"),
+    ("0800000019", "000000000000000019$"),
+    ("0800000007", "000000001900000007$"),
+    (
+        "09",
+        "000000000000000020000000000000000700000000000000000000000000000000000000000000001900000000000000000000000000000000$",
+    ),
+];
+
+// Leakage of 0 parts loses nothing, and a floor above the capacity lets nothing be drawn.
+const NONE_LEAKS: &[(&str, &str)] = &[
+    ("110000001EFFFFFFFF0000", "00$"),
+    ("0800000019", "000000000000000019$"),
+    ("0800000000", "000000000000000000$"),
+    ("06000000000001", "110000015200000001$"),
+    ("0600000000001A", "10000000000001$"),
+];
+
 // One line and its answer, as far as the simulator says that it wrote.
 fn told(
     tally: &mut Tally<'_>,
@@ -153,12 +183,22 @@ fn short(tally: &mut Tally<'_>) {
     );
 }
 
+// Each is a simulator of its own.
+const SESSIONS: &[&[(&str, &str)]] = &[
+    CAPACITOR,
+    LAYERED,
+    BANK,
+    WORKED,
+    UNUSED,
+    LOSS,
+    NO_ROOM,
+    ALL_LEAKS,
+    NONE_LEAKS,
+];
+
 pub fn run(tally: &mut Tally<'_>) {
-    session(tally, CAPACITOR);
-    session(tally, LAYERED);
-    session(tally, BANK);
-    session(tally, WORKED);
-    session(tally, UNUSED);
-    session(tally, LOSS);
+    for lines in SESSIONS {
+        session(tally, lines);
+    }
     short(tally);
 }
