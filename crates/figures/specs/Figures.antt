@@ -46,9 +46,9 @@ pub record Figures : Type 0 where
   -- 1 quantum in 3 ticks, and 7 in 2
   pub thirds : dues 6 1 3 0 ≡ 0 ∷ 0 ∷ 1 ∷ 0 ∷ 0 ∷ 1 ∷ []
   pub halves : dues 4 7 2 0 ≡ 3 ∷ 4 ∷ 3 ∷ 4 ∷ []
-  -- leakage of 1,000 parts at held 25, and then at 23
-  pub first-leak : (leak-of 25 1000 0 ≡ 2) × (kept 25 1000 0 ≡ 5000)
-  pub second-leak : (leak-of 23 1000 5000 ≡ 2) × (kept 23 1000 5000 ≡ 8000)
+  -- leakage of 1,000 parts at held 25, which leaves 23, and then at 23, which leaves 21
+  pub first-leak : (leak-of 25 1000 0 ≡ 2) × (kept 25 1000 0 ≡ 5000) × (25 - leak-of 25 1000 0 ≡ 23)
+  pub second-leak : (leak-of 23 1000 5000 ≡ 2) × (kept 23 1000 5000 ≡ 8000) × (23 - leak-of 23 1000 5000 ≡ 21)
   -- cells of 5, 3 and 2: a charge of 7, and then a draw of 3
   pub cells-charged : filled 7 (with-none (5 ∷ 3 ∷ 2 ∷ [])) (with-none (0 ∷ 0 ∷ 0 ∷ [])) ≡ with-none (5 ∷ 2 ∷ 0 ∷ [])
   pub cells-drawn : emptied 3 (with-none (5 ∷ 2 ∷ 0 ∷ [])) ≡ with-none (4 ∷ 0 ∷ 0 ∷ [])

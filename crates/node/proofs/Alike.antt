@@ -1,4 +1,4 @@
--- Reserve-rows that differ in their levels alone.
+-- Rows of reserves that differ in their levels alone.
 use mathlib.Core.Path.{_≡_, refl, _∙_}
 use mathlib.Core.List.{List, [], _∷_}
 use Prim.Native.Nat.{ℕ, zero, suc, _+_, _-_, min}

@@ -1,4 +1,4 @@
--- No reserve but the root ever stands above its limit-in (the root does not since all levels together are within it).
+-- No reserve but the root ever stands above its limit (the root does not since all levels together are within it).
 use mathlib.Core.Path.{_≡_}
 use mathlib.Core.List.{List, [], _∷_}
 use Prim.Native.Nat.{ℕ, zero, suc, _+_, _-_, _≤_, min}

@@ -28,7 +28,7 @@ use Rattle.node.specs.declared.denial.Overdraw.{Overdraw}
 use Rattle.node.specs.declared.slip.Slip.{Slip}
 use Rattle.node.specs.declared.node.Node.{Node}
 use Rattle.node.specs.Standing.{Standing, born}
-use Rattle.node.specs.Calls.{Call, Event, open-reserve, close-reserve, open-tap, shut-tap, request, settle, park, recall, tick}
+use Rattle.node.specs.Calls.{Event, open-reserve, close-reserve, open-tap, shut-tap, request, settle, park, recall, tick}
 use Rattle.node.specs.Calls.{refused, opened, closed, tapped, shut, granted, settled, parked, recalled, ticked}
 use Rattle.node.specs.Steps.{State, Step}
 use Rattle.node.specs.Sound.{Whole}

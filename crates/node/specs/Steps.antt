@@ -7,7 +7,6 @@
 --     Answers s e m     what an accepted call answers, and what it leaves of the store
 --     Step s e s′       one call: s is the state before, e the call with its answer, s′ the state after
 use mathlib.Core.Path.{_≡_}
-use mathlib.Core.List.{List}
 use Prim.Native.Nat.{ℕ, _+_, _-_}
 use Rattle.std.specs.declared.option.Option.{Option}
 use Rattle.std.specs.declared.option.Option.the-variants.{None, Some}

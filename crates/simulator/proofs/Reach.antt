@@ -36,9 +36,9 @@ module _ {S : Type 0} (G : Ghosts S) where
   ends j m slip (Ok lost) r p at = stays j m (p .0) at
   ends j m slip (Err e) r p at = on j m _ (p .0) at
 
-  settles : (k m : Node S) (x : Result _ _) (used : ℕ) (r : Result Answer FrameFault) → Settled-with G x used k r m → Reached-on G k → Reached-on G m
-  settles k m (Ok slip) used r p at = ends (p .1) m slip (p .0) r (p .3) (on k (p .1) _ (p .2) at)
-  settles k m (Err d) used r p at = stays k m (p .0) at
+  settles : (k m : Node S) (serial : ℕ) (x : Result _ _) (used : ℕ) (r : Result Answer FrameFault) → Settled-with G serial x used k r m → Reached-on G k → Reached-on G m
+  settles k m serial (Ok slip) used r p at = ends (p .2) m slip (p .1) r (p .4) (on k (p .2) _ (p .3) at)
+  settles k m serial (Err d) used r p at = stays k m (p .0) at
 
   pub serving : (n m : Node S) (f : Frame) (r : Result Answer FrameFault) → Serves-on G n f r m → Reached-on G n → Reached-on G m
   serving n m (Capacitor-frame c) r p at = stays n m (p .1) at
@@ -49,8 +49,8 @@ module _ {S : Type 0} (G : Ghosts S) where
   serving n m (Tap t k a b q d) r p at = on n m _ (p .1) at
   serving n m (Shut t k) r p at = on n m _ (p .1) at
   serving n m (Grant t i q) r p at = parks (p .1) m (p .0) r (p .3) (on n (p .1) _ (p .2) at)
-  serving n m (Settle t s u) r p at = settles (p .1) m (p .0) u r (p .3) (on n (p .1) _ (p .2) at)
-  serving n m (Tick h) r p at = on n m _ (p .2) at
+  serving n m (Settle t s u) r p at = settles (p .1) m s (p .0) u r (p .3) (on n (p .1) _ (p .2) at)
+  serving n m (Tick h) r p at = on n m _ (p .3) at
   serving n m Audit r p at = stays n m (p .4) at
 
   run-sound : (birth : S) (h : History) (n : Node S) → Run G birth h n → Sound-node G n

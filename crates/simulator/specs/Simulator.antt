@@ -13,7 +13,6 @@
 --     Replies s line r s′        what the line is answered, and what stands after it
 --     Answers s line out r s′ out′      the same with the answer array before and after
 use mathlib.Core.Path.{_≡_}
-use mathlib.Core.Bool.{Bool, true, false}
 use mathlib.Core.List.{List}
 use Prim.Native.Nat.{ℕ, _≤_, _<_}
 use lib.ListN.{length}
@@ -131,12 +130,12 @@ module _ {S : Type 0} (G : Ghosts S) where
   Ends slip (Ok lost) j r m = (m ≡ j) × (r ≡ Ok (Settled lost))
   Ends slip (Err e) j r m = Extends G j (parked (slip .serial) (slip .amount)) m × (r ≡ Err (Denied (e .0)))
 
-  abbrev pub Settled-with : Result Slip Denial → ℕ → Node S → Result Answer FrameFault → Node S → Type 0
-  Settled-with (Ok slip) used k r m = (y : Result ℕ (Denial × Slip)) × (j : Node S) × Extends G k (settling slip used y) j × Ends slip y j r m
-  Settled-with (Err d) used k r m = (m ≡ k) × (r ≡ Err (Denied d))
+  abbrev pub Settled-with : ℕ → Result Slip Denial → ℕ → Node S → Result Answer FrameFault → Node S → Type 0
+  Settled-with serial (Ok slip) used k r m = (slip .serial ≡ serial) × (y : Result ℕ (Denial × Slip)) × (j : Node S) × Extends G k (settling slip used y) j × Ends slip y j r m
+  Settled-with serial (Err d) used k r m = (m ≡ k) × (r ≡ Err (Denied d))
 
   abbrev pub Settles : Node S → ℕ → ℕ → ℕ → Result Answer FrameFault → Node S → Type 0
-  Settles n task serial used r m = (x : Result Slip Denial) × (k : Node S) × Extends G n (recalling task serial x) k × Settled-with x used k r m
+  Settles n task serial used r m = (x : Result Slip Denial) × (k : Node S) × Extends G n (recalling task serial x) k × Settled-with serial x used k r m
 
   abbrev pub Turned : Node S → Result Answer FrameFault → Node S → Type 0
   Turned n r m = (r ≡ Err OutOfTurn) × (m ≡ n)
@@ -146,13 +145,13 @@ module _ {S : Type 0} (G : Ghosts S) where
   Serves-on n (Capacitor-frame c) r m = Turned n r m
   Serves-on n (Layered-frame c f p) r m = Turned n r m
   Serves-on n (Bank-frame cs) r m = Turned n r m
-  Serves-on n (Open t p i o l q) r m = (x : Result (Unit {0}) Denial) × Extends G n (opening t p i o l q x) m × (r ≡ done x)
-  Serves-on n (Close t i) r m = (x : Result (Unit {0}) Denial) × Extends G n (closing t i x) m × (r ≡ done x)
-  Serves-on n (Tap t k a b p d) r m = (x : Result (Unit {0}) Denial) × Extends G n (tapping t k a b p d x) m × (r ≡ done x)
-  Serves-on n (Shut t k) r m = (x : Result (Unit {0}) Denial) × Extends G n (shutting t k x) m × (r ≡ done x)
+  Serves-on n (Open t p i o l q) r m = (x : Result (Unit {0}) Denial) × Extends G n (opening t p i o l q x) m × (m .store ≡ n .store) × (r ≡ done x)
+  Serves-on n (Close t i) r m = (x : Result (Unit {0}) Denial) × Extends G n (closing t i x) m × (m .store ≡ n .store) × (r ≡ done x)
+  Serves-on n (Tap t k a b p d) r m = (x : Result (Unit {0}) Denial) × Extends G n (tapping t k a b p d x) m × (m .store ≡ n .store) × (r ≡ done x)
+  Serves-on n (Shut t k) r m = (x : Result (Unit {0}) Denial) × Extends G n (shutting t k x) m × (m .store ≡ n .store) × (r ≡ done x)
   Serves-on n (Grant t i q) r m = Grants n t i q r m
   Serves-on n (Settle t s u) r m = Settles n t s u r m
-  Serves-on n (Tick h) r m = (report : List ℕ) × (x : Result (ℕ × ℕ) Denial) × Extends G n (ticking h report x) m × (r ≡ told x)
+  Serves-on n (Tick h) r m = (report : List ℕ) × (length report ≡ 96) × (x : Result (ℕ × ℕ) Denial) × Extends G n (ticking h report x) m × (r ≡ told x)
   Serves-on n Audit r m = (t : Totals) × Extends G n (audited t) n × Lawful G n t × (r ≡ Ok (Audited t)) × (m ≡ n)
 
 abbrev pub Serves-in : {S : Type 0} → Ghosts S → (Node S → Simulator) → Node S → Frame → Result Answer FrameFault → Simulator → Type 0

@@ -27,6 +27,7 @@ returns-in-Ok-park g c =
         c .recall .last .self,
         recalls .step,
         (
+          recalls .slip .0,
           Err (c .in-Err-settle .denial, c .in-Err-settle .slip),
           c .settle .last .self,
           c .in-Err-settle .ensures tt .step,

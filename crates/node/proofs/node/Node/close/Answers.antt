@@ -19,6 +19,7 @@ returns-in-Break-row g c =
       step = turned-away (g .S·Store) (c .args .self .now) (close-reserve (c .args .task) (c .args .number)) _
           (sym (c .in-Break-row .ensures tt .judged (store-means (g .S·Store) (c .args .self .now))));
       same = refl;
+      store = refl;
     })
 
 pub returns : need.returns
@@ -42,4 +43,5 @@ returns g c = record {
         books = refl;
       });
   same = tt;
+  store = refl;
 }

@@ -15,6 +15,7 @@ returns-in-Break-may-open g c =
       step = turned-away (g .S·Store) (c .args .self .now) (open-reserve (c .args .task) (c .args .parent) (c .args .number) (c .args .owner) (c .args .limit) (c .args .amount)) _
           (sym (c .in-Break-may-open .ensures tt .judged (store-means (g .S·Store) (c .args .self .now)) (c .args .owner)));
       same = refl;
+      store = refl;
     })
 
 pub returns : need.returns
@@ -30,4 +31,5 @@ returns g c = record {
         books = refl;
       });
   same = tt;
+  store = refl;
 }

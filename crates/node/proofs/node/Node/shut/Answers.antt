@@ -13,6 +13,7 @@ returns-in-Break-may-shut g c =
       step = turned-away (g .S·Store) (c .args .self .now) (shut-tap (c .args .task) (c .args .tap)) _
           (sym (c .in-Break-may-shut .ensures tt .judged (store-means (g .S·Store) (c .args .self .now))));
       same = refl;
+      store = refl;
     })
 
 pub returns : need.returns
@@ -26,4 +27,5 @@ returns g c = record {
         books = refl;
       });
   same = tt;
+  store = refl;
 }

@@ -13,6 +13,7 @@ returns-in-Break-may-tap g c =
       step = turned-away (g .S·Store) (c .args .self .now) (open-tap (c .args .task) (c .args .tap) (c .args .source) (c .args .sink) (c .args .n) (c .args .d)) _
           (sym (c .in-Break-may-tap .ensures tt .judged (store-means (g .S·Store) (c .args .self .now))));
       same = refl;
+      store = refl;
     })
 
 pub returns : need.returns
@@ -27,4 +28,5 @@ returns g c = record {
         books = refl;
       });
   same = tt;
+  store = refl;
 }
