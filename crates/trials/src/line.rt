@@ -183,19 +183,6 @@ fn short(tally: &mut Tally<'_>) {
     );
 }
 
-// The 64th open grant passes, and the 65th does not.
-fn full(tally: &mut Tally<'_>) {
-    let mut simulator = Simulator::new();
-    let mut out = [0; ROOM];
-    let _ = simulator.answer(b"1000000064", &mut out);
-    let _ = simulator.answer(b"0800000064", &mut out);
-    for _ in 0..63 {
-        let _ = simulator.answer(b"06000000000001", &mut out);
-    }
-    bytes(tally, &mut simulator, "06000000000001", "0000000040$");
-    bytes(tally, &mut simulator, "06000000000001", "0E$");
-}
-
 // Each is a simulator of its own.
 const SESSIONS: &[&[(&str, &str)]] = &[
     CAPACITOR,
@@ -213,6 +200,5 @@ pub fn run(tally: &mut Tally<'_>) {
     for lines in SESSIONS {
         session(tally, lines);
     }
-    full(tally);
     short(tally);
 }
