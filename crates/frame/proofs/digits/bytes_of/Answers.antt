@@ -11,8 +11,8 @@ loop-rest-init c =
 
 pub loop-rest-preserved : goal.loop-rest-preserved
 loop-rest-preserved c = (
-  prepend_more (content c.loop-rest.bytes) _ c.loop-rest.rest.now c.args.digits.now c.in-ok-h.h
-      c.in-ok-l.l c.loop-rest.invariant.0 (sym c.in-ok-h.ensures.result)
-      (sym c.in-ok-l.ensures.result) (search rules) c.push.ensures.after,
+  prepend_more (content c.loop-rest.bytes) _ c.loop-rest.rest.now c.args.digits.now c.in_ok-h.h
+      c.in_ok-l.l c.loop-rest.invariant.0 (sym c.in_ok-h.ensures.result)
+      (sym c.in_ok-l.ensures.result) (search rules) c.push.ensures.after,
   search rules,
 )

@@ -6,8 +6,8 @@ use Rattle.tables.proofs.taps.carry.Goals as goal
 pub returns : goal.returns
 returns c =
     let rows = c.args.reserves.now.rows in
-    let level : c.level-of-level.result ≡ level_at rows c.args.source = c.level-of-level.ensures.result ∙ ap level_in c.get.ensures.result in
-    let room : c.headroom-of-room.result ≡ headroom rows c.args.sink = c.headroom-of-room.ensures.result ∙ ap (λ o. limit_in o - level_in o) c.get-2.ensures.result in
+    let level : c.level_of-level.result ≡ level_at rows c.args.source = c.level_of-level.ensures.result ∙ ap level_in c.get.ensures.result in
+    let room : c.headroom_of-room.result ≡ headroom rows c.args.sink = c.headroom_of-room.ensures.result ∙ ap (λ o. limit_in o - level_in o) c.get-2.ensures.result in
     let moved : c.min-moved.result ≡ min c.args.due (min (level_at rows c.args.source) (headroom rows c.args.sink)) = omega (arith, c.min-moved.ensures, c.min.ensures, level, room) in
     record {
       result = moved;

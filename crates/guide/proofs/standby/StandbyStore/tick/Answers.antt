@@ -14,7 +14,7 @@ returns g c =
       ticked = λ s.
           let t = c.tick-loss.ensures.ticked s in
           let d = c.drain-gone.ensures.drained (c.tick-loss.ensures.sound s) in
-          let told = told_whole _ _ _ _ _ _ t d c.saturating-add.result (g.met.S.Store.means old.below s) c.saturating-add.ensures in
+          let told = told_whole _ _ _ _ _ _ t d c.saturating_add.result (g.met.S.Store.means old.below s) c.saturating_add.ensures in
           ticked_more (below_means g.S.Store old) (below_means g.S.Store new) _ _ refl _
           (subst (λ n. Ticked (below_means g.S.Store old) n (below_means g.S.Store new)) told (ticked_drained _ _ _ _ _ _ t d));
       after = λ s.

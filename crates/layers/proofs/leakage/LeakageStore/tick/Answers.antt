@@ -5,7 +5,7 @@ use Rattle.layers.proofs.Leaks.{kept_below, drained_leak, told_whole, ticked_lea
 use Rattle.layers.proofs.leakage.LeakageStore.tick.Given.{Over}
 use Rattle.layers.proofs.leakage.LeakageStore.tick.Goals as goal
 
-leaked : (g : Over) (c : goal.After-saturating-add g) → LeakageSound g.S.Store c.args.self.now → Leaked g.S.Store c.args.self.now c.saturating-add.result (record { below = c.drain-gone.new.self; part = c.args.self.now.part; remainder = c.leaks-leak.result.1 })
+leaked : (g : Over) (c : goal.After-saturating_add g) → LeakageSound g.S.Store c.args.self.now → Leaked g.S.Store c.args.self.now c.saturating_add.result (record { below = c.drain-gone.new.self; part = c.args.self.now.part; remainder = c.leaks-leak.result.1 })
 leaked g c s =
     let between = c.tick-loss.ensures.sound s.0 in
     let held = c.held.ensures.result between in
@@ -17,7 +17,7 @@ leaked g c s =
       gone = c.drain-gone.result;
       ticked = ticked;
       drained = drained;
-      told = told_whole _ _ _ _ _ _ ticked drained _ (g.met.S.Store.means c.args.self.now.below s.0) c.saturating-add.ensures;
+      told = told_whole _ _ _ _ _ _ ticked drained _ (g.met.S.Store.means c.args.self.now.below s.0) c.saturating_add.ensures;
       part = refl;
       remainder = ap (λ x. x.1) c.leaks-leak.ensures.result ∙ ap (λ h. kept h c.args.self.now.part c.args.self.now.remainder) held;
     }

@@ -6,12 +6,12 @@ use Rattle.node.specs.Node.{standing_of, store_means}
 use Rattle.node.proofs.Goes.{turned_away, goes}
 use Rattle.node.proofs.node.Node.open.Goals as goal
 
-pub returns-in-err-may-open : goal.returns-in-err-may-open
-returns-in-err-may-open g c =
+pub returns-in_err-may_open : goal.returns-in_err-may_open
+returns-in_err-may_open g c =
     let p = err_from_is_err_and c.from-residual.result c.from-residual.ensures.1 in
     rw (p.1, p.2) (record {
       step = turned_away g.S.Store c.args.self.now (open_reserve c.args.task c.args.parent c.args.number c.args.owner c.args.limit c.args.amount) _
-          (sym (c.in-err-may-open.ensures.judged (store_means g.S.Store c.args.self.now) c.args.owner));
+          (sym (c.in_err-may_open.ensures.judged (store_means g.S.Store c.args.self.now) c.args.owner));
       same = refl;
       store = refl;
     })
@@ -22,7 +22,7 @@ returns g c = record {
       (opened c.args.task c.args.parent c.args.number c.args.owner c.args.limit c.args.amount) s s.store
       (record {
         places = 0;
-        judged = sym (c.in-ok-may-open.ensures.judged (store_means g.S.Store c.args.self.now) c.args.owner);
+        judged = sym (c.in_ok-may_open.ensures.judged (store_means g.S.Store c.args.self.now) c.args.owner);
         answers = refl;
         standing = ap (with_reserves (standing_of c.args.self.now)) (c.open.ensures.after
             ∙ ap (λ rs. set rs c.args.number (Some (record { owner = c.args.owner; parent = c.args.parent; limit = c.args.limit; level = c.args.amount }))) c.lower.ensures.after);

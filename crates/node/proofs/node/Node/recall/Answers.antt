@@ -7,32 +7,32 @@ use Rattle.node.proofs.Goes.{turned_away, goes}
 use Rattle.node.proofs.Settling.{recalled_out}
 use Rattle.node.proofs.node.Node.recall.Goals as goal
 
-pub returns-in-err-grant : goal.returns-in-err-grant
-returns-in-err-grant g c =
+pub returns-in_err-grant : goal.returns-in_err-grant
+returns-in_err-grant g c =
     let p = err_from_is_err_and c.from-residual.result c.from-residual.ensures.1 in
     rw (p.1, p.2) (record {
       step = turned_away g.S.Store c.args.self.now (recall c.args.task c.args.serial) _
-          (sym (c.in-err-grant.ensures.judged (store_means g.S.Store c.args.self.now)));
+          (sym (c.in_err-grant.ensures.judged (store_means g.S.Store c.args.self.now)));
       same = refl;
-      judged = λ m. sym (c.in-err-grant.ensures.judged m);
+      judged = λ m. sym (c.in_err-grant.ensures.judged m);
       slip = tt;
       after = tt;
     })
 
 pub returns : goal.returns
 returns g c = record {
-  step = λ s. goes g.S.Store g.met.S.Store.means c.args.self.now _ (recalled c.args.task c.args.serial c.in-ok-grant.grant.amount) s s.store
+  step = λ s. goes g.S.Store g.met.S.Store.means c.args.self.now _ (recalled c.args.task c.args.serial c.in_ok-grant.grant.amount) s s.store
       (record {
         places = 0;
-        judged = sym (c.in-ok-grant.ensures.judged (store_means g.S.Store c.args.self.now));
-        answers = (sym (ap amount_in c.in-ok-grant.ensures.found), refl);
+        judged = sym (c.in_ok-grant.ensures.judged (store_means g.S.Store c.args.self.now));
+        answers = (sym (ap amount_in c.in_ok-grant.ensures.found), refl);
         standing =
             ap (λ x. record { reserves = c.args.self.now.reserves.rows; taps = c.args.self.now.taps.rows; grants = x; serials = c.mark.new.self.serials; ticks = c.args.self.now.ticks }) c.mark.ensures.after
             ∙ ap (λ x. record { reserves = c.args.self.now.reserves.rows; taps = c.args.self.now.taps.rows; grants = marked false c.args.serial (open_in c.args.self.now.grants); serials = x; ticks = c.args.self.now.ticks }) c.mark.ensures.serials;
         books = refl;
       });
   same = tt;
-  judged = λ m. sym (c.in-ok-grant.ensures.judged m);
-  slip = (refl, recalled_out c.args.self.now.grants c.args.serial c.in-ok-grant.grant _ c.in-ok-grant.ensures.found c.mark.ensures.after);
+  judged = λ m. sym (c.in_ok-grant.ensures.judged m);
+  slip = (refl, recalled_out c.args.self.now.grants c.args.serial c.in_ok-grant.grant _ c.in_ok-grant.ensures.found c.mark.ensures.after);
   after = record { others = refl; grants = c.mark.ensures.after; count = c.mark.ensures.count; further = c.mark.ensures.further; serials = c.mark.ensures.serials };
 }

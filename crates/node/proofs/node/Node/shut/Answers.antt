@@ -6,12 +6,12 @@ use Rattle.node.specs.Node.{standing_of, store_means}
 use Rattle.node.proofs.Goes.{turned_away, goes}
 use Rattle.node.proofs.node.Node.shut.Goals as goal
 
-pub returns-in-err-may-shut : goal.returns-in-err-may-shut
-returns-in-err-may-shut g c =
+pub returns-in_err-may_shut : goal.returns-in_err-may_shut
+returns-in_err-may_shut g c =
     let p = err_from_is_err_and c.from-residual.result c.from-residual.ensures.1 in
     rw (p.1, p.2) (record {
       step = turned_away g.S.Store c.args.self.now (shut_tap c.args.task c.args.tap) _
-          (sym (c.in-err-may-shut.ensures.judged (store_means g.S.Store c.args.self.now)));
+          (sym (c.in_err-may_shut.ensures.judged (store_means g.S.Store c.args.self.now)));
       same = refl;
       store = refl;
     })
@@ -21,7 +21,7 @@ returns g c = record {
   step = λ s. goes g.S.Store g.met.S.Store.means c.args.self.now _ (shut c.args.task c.args.tap) s s.store
       (record {
         places = 0;
-        judged = sym (c.in-ok-may-shut.ensures.judged (store_means g.S.Store c.args.self.now));
+        judged = sym (c.in_ok-may_shut.ensures.judged (store_means g.S.Store c.args.self.now));
         answers = refl;
         standing = ap (with_taps (standing_of c.args.self.now)) c.shut.ensures.after;
         books = refl;

@@ -6,12 +6,12 @@ use Rattle.node.specs.Node.{standing_of, store_means}
 use Rattle.node.proofs.Goes.{turned_away, goes}
 use Rattle.node.proofs.node.Node.tap.Goals as goal
 
-pub returns-in-err-may-tap : goal.returns-in-err-may-tap
-returns-in-err-may-tap g c =
+pub returns-in_err-may_tap : goal.returns-in_err-may_tap
+returns-in_err-may_tap g c =
     let p = err_from_is_err_and c.from-residual.result c.from-residual.ensures.1 in
     rw (p.1, p.2) (record {
       step = turned_away g.S.Store c.args.self.now (open_tap c.args.task c.args.tap c.args.source c.args.sink c.args.n c.args.d) _
-          (sym (c.in-err-may-tap.ensures.judged (store_means g.S.Store c.args.self.now)));
+          (sym (c.in_err-may_tap.ensures.judged (store_means g.S.Store c.args.self.now)));
       same = refl;
       store = refl;
     })
@@ -22,7 +22,7 @@ returns g c = record {
       (tapped c.args.task c.args.tap c.args.source c.args.sink c.args.n c.args.d) s s.store
       (record {
         places = 0;
-        judged = sym (c.in-ok-may-tap.ensures.judged (store_means g.S.Store c.args.self.now));
+        judged = sym (c.in_ok-may_tap.ensures.judged (store_means g.S.Store c.args.self.now));
         answers = refl;
         standing = ap (with_taps (standing_of c.args.self.now)) c.open.ensures.after;
         books = refl;

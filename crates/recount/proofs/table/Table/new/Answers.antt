@@ -6,7 +6,7 @@ use Rattle.recount.proofs.table.Table.new.Goals as goal
 pub returns : goal.returns
 returns c = record {
   result = λ task reserve.
-      ap (λ xs. get_or xs (place task reserve) none) (c.in-ok-rows.ensures.items-if-clones-equal (λ y e. e))
+      ap (λ xs. get_or xs (place task reserve) none) (c.in_ok-rows.ensures.items-if-clones-equal (λ y e. e))
       ∙ ap (λ row. get_or (replicate 65536 row) (place task reserve) none) c.new.ensures.result
       ∙ get_d_replicate 65536 (place task reserve) none;
 }

@@ -28,10 +28,10 @@ returns c =
         long = λ _. (
           c.reply.result,
           c.reply.ensures.replies,
-          (c.write-answer.ensures.result ∙ ap (λ a. answered a c.args.out.now) told),
-          (c.write-answer.ensures.after ∙ ap (λ a. after_answer a c.args.out.now) told),
+          (c.write_answer.ensures.result ∙ ap (λ a. answered a c.args.out.now) told),
+          (c.write_answer.ensures.after ∙ ap (λ a. after_answer a c.args.out.now) told),
           c.reply.ensures.same,
         );
       };
-      within = short_enough c.match-reply.answer c.args.out.now c.write-answer.result c.write-answer.ensures.result;
+      within = short_enough c.match-reply.answer c.args.out.now c.write_answer.result c.write_answer.ensures.result;
     }

@@ -12,7 +12,7 @@ loop-i-preserved c =
     let cs : List ℕ = c.loop-i.self.capacities in
     let hs : List ℕ = c.loop-i.self.held in
     let i : ℕ = c.loop-i.i in
-    let added : c.min-added.result ≡ min c.loop-i.left (get_or cs i 0 - get_or hs i 0) = c.min-added.ensures ∙ ap (min c.loop-i.left) c.saturating-sub.ensures in
+    let added : c.min-added.result ≡ min c.loop-i.left (get_or cs i 0 - get_or hs i 0) = c.min-added.ensures ∙ ap (min c.loop-i.left) c.saturating_sub.ensures in
     let inside : i < length hs = omega (arith, inv.4, c.loop-i-test.true) in
     let inside-cs : i < length cs = rw (ap (λ b. b.capacities) inv.0) (search rules) in (
       ap (with_held (set hs i (get_or hs i 0 + c.min-added.result))) inv.0,

@@ -7,15 +7,15 @@ use Rattle.tables.proofs.reserves.Reserves.is_parent.Goals as goal
 pub loop-k-init : goal.loop-k-init
 loop-k-init c = ap (any (parent_is c.args.i)) (tail_drop c.args.self.now.rows)
 
-pub returns-then-has-parent : goal.returns-then-has-parent
-returns-then-has-parent c = record {
-  result = sym (c.loop-k.invariant ∙ any_here (parent_is c.args.i) c.args.self.now.rows c.loop-k.k _ c.loop-k-test.true (sym c.if-has-parent.ensures.result));
+pub returns-then-has_parent : goal.returns-then-has_parent
+returns-then-has_parent c = record {
+  result = sym (c.loop-k.invariant ∙ any_here (parent_is c.args.i) c.args.self.now.rows c.loop-k.k _ c.loop-k-test.true (sym c.if-has_parent.ensures.result));
 }
 
 pub loop-k-preserved : goal.loop-k-preserved
 loop-k-preserved c =
     c.loop-k.invariant
-    ∙ any_on (parent_is c.args.i) c.args.self.now.rows c.loop-k.k _ c.loop-k-test.true (sym c.if-has-parent.ensures.result)
+    ∙ any_on (parent_is c.args.i) c.args.self.now.rows c.loop-k.k _ c.loop-k-test.true (sym c.if-has_parent.ensures.result)
 
 pub returns : goal.returns
 returns c = record {

@@ -2,9 +2,9 @@ use Rattle.std.proofs.Common.{sym, ◌∙◌}
 use Rattle.tables.proofs.TapLaws.{ran_absent, ran_moved}
 use Rattle.tables.proofs.taps.Taps.run.Goals as goal
 
-pub returns-in-default : goal.returns-in-default
-returns-in-default c = record {
-  ran = ran_absent c.args.k c.args.reserves.now.rows c.args.self.now.rows (sym c.at.ensures.result ∙ c.in-default.is);
+pub returns-in_default : goal.returns-in_default
+returns-in_default c = record {
+  ran = ran_absent c.args.k c.args.reserves.now.rows c.args.self.now.rows (sym c.at.ensures.result ∙ c.in_default.is);
 }
 
 pub returns : goal.returns
