@@ -10,7 +10,7 @@ use Rattle.node.proofs.node.Node.close.Goals as goal
 
 pub returns-in_err-row : goal.returns-in_err-row
 returns-in_err-row g c =
-    let p = err_from_is_err_and c.from-residual.result c.from-residual.ensures.1 in
+    let p = err_from_is_err_and c.from_residual.result c.from_residual.ensures.1 in
     rw (p.1, p.2) (record {
       step = turned_away g.S.Store c.args.self.now (close_reserve c.args.task c.args.number) _
           (sym (c.in_err-row.ensures.judged (store_means g.S.Store c.args.self.now)));

@@ -9,7 +9,7 @@ use Rattle.node.proofs.node.Node.grant.Goals as goal
 
 pub returns-in_err-may_request : goal.returns-in_err-may_request
 returns-in_err-may_request g c =
-    let p = err_from_is_err_and c.from-residual.result c.from-residual.ensures.1 in
+    let p = err_from_is_err_and c.from_residual.result c.from_residual.ensures.1 in
     rw (p.1, p.2) (record {
       step = turned_away g.S.Store c.args.self.now (request c.args.task c.args.reserve c.args.amount) _
           (request_refused (store_means g.S.Store c.args.self.now) (standing_of c.args.self.now) c.args.task c.args.reserve c.args.amount _
@@ -20,7 +20,7 @@ returns-in_err-may_request g c =
 
 pub returns-in_err-draw : goal.returns-in_err-draw
 returns-in_err-draw g c =
-    let p = err_from_is_err_and c.from-residual-in_err-draw.result c.from-residual-in_err-draw.ensures.1 in
+    let p = err_from_is_err_and c.from_residual-in_err-draw.result c.from_residual-in_err-draw.ensures.1 in
     let drawn = c.in_err-draw.ensures.drawn in
     let same = ap (λ x. record { store = x; reserves = c.args.self.now.reserves; taps = c.args.self.now.taps; grants = c.args.self.now.grants; books = c.args.self.now.books; ticks = c.args.self.now.ticks }) c.in_err-draw.ensures.same in
     rw (p.1, p.2) (record {

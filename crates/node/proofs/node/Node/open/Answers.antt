@@ -8,7 +8,7 @@ use Rattle.node.proofs.node.Node.open.Goals as goal
 
 pub returns-in_err-may_open : goal.returns-in_err-may_open
 returns-in_err-may_open g c =
-    let p = err_from_is_err_and c.from-residual.result c.from-residual.ensures.1 in
+    let p = err_from_is_err_and c.from_residual.result c.from_residual.ensures.1 in
     rw (p.1, p.2) (record {
       step = turned_away g.S.Store c.args.self.now (open_reserve c.args.task c.args.parent c.args.number c.args.owner c.args.limit c.args.amount) _
           (sym (c.in_err-may_open.ensures.judged (store_means g.S.Store c.args.self.now) c.args.owner));

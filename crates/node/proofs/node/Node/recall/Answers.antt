@@ -9,7 +9,7 @@ use Rattle.node.proofs.node.Node.recall.Goals as goal
 
 pub returns-in_err-grant : goal.returns-in_err-grant
 returns-in_err-grant g c =
-    let p = err_from_is_err_and c.from-residual.result c.from-residual.ensures.1 in
+    let p = err_from_is_err_and c.from_residual.result c.from_residual.ensures.1 in
     rw (p.1, p.2) (record {
       step = turned_away g.S.Store c.args.self.now (recall c.args.task c.args.serial) _
           (sym (c.in_err-grant.ensures.judged (store_means g.S.Store c.args.self.now)));

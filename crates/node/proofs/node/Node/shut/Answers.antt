@@ -8,7 +8,7 @@ use Rattle.node.proofs.node.Node.shut.Goals as goal
 
 pub returns-in_err-may_shut : goal.returns-in_err-may_shut
 returns-in_err-may_shut g c =
-    let p = err_from_is_err_and c.from-residual.result c.from-residual.ensures.1 in
+    let p = err_from_is_err_and c.from_residual.result c.from_residual.ensures.1 in
     rw (p.1, p.2) (record {
       step = turned_away g.S.Store c.args.self.now (shut_tap c.args.task c.args.tap) _
           (sym (c.in_err-may_shut.ensures.judged (store_means g.S.Store c.args.self.now)));
