@@ -1,6 +1,7 @@
 // Reads frames from standard input, one to a line, and writes one answer line for each.
 use frame::Line;
 use simulator::Simulator;
+use std::alloc::Global;
 use std::io::{BufWriter, Read, Stdin, Stdout, Write};
 use std::{env, io};
 
@@ -82,11 +83,11 @@ impl Session {
 }
 
 // Answers every line; a last one that is not empty may lack its line feed.
-fn run(mut input: Stdin, output: Stdout) -> io::Result<()> {
+fn run(alloc: Global, mut input: Stdin, output: Stdout) -> io::Result<()> {
     let mut session = Session {
         simulator: Simulator::new(),
         line: Line::new(),
-        output: BufWriter::new(output),
+        output: BufWriter::new(alloc, output)?,
     };
     let mut chunk = [0; CHUNK];
     for _ in 0..u64::MAX {
@@ -104,7 +105,7 @@ fn main(rt: HostRuntime) -> io::Result<()> {
     let mut args = env::args(&rt)?;
     let _ = args.next();
     match args.next() {
-        None => run(rt.stdin(), rt.stdout()),
+        None => run(rt.alloc(), rt.stdin(), rt.stdout()),
         Some(word) if word == "--help" => rt.print(HELP),
         Some(word) => {
             eprintln!(rt; "cindersim: no argument is taken but --help, and '{word}' is none")?;

@@ -60,7 +60,7 @@ fn cells(capacities: &[u32]) -> Result<Simulator, OutOfRange>
 }
 
 fn ranged(made: Result<Simulator, OutOfRange>) -> Result<Simulator, FrameFault>
-    ensures result { result ≡ ranged_of IfOk }
+    ensures result { result ≡ ranged_of made }
 {
     match made {
         Ok(simulator) => Ok(simulator),
