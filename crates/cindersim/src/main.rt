@@ -106,7 +106,7 @@ fn main(rt: HostRuntime) -> io::Result<()> {
     let _ = args.next();
     match args.next() {
         None => run(rt.alloc(), rt.stdin(), rt.stdout()),
-        Some(word) if word == "--help" => rt.print(HELP),
+        Some(word) if word.as_str() == "--help" => rt.print(HELP),
         Some(word) => {
             eprintln!(rt; "cindersim: no argument is taken but --help, and '{word}' is none")?;
             Err(io::Error::from(io::ErrorKind::InvalidInput))
