@@ -2,8 +2,7 @@
 ghost use Rattle.std.specs.Prelude.{◌≡◌, OnErr};
 ghost use Rattle.store.specs.Meaning.{Charged, Drawn, Drained, Ticked};
 ghost use Rattle.layers.specs.Floor.{floor_means, FloorSound};
-ghost use Rattle.std.proofs.Common.{arith};
-ghost use Rattle.store.proofs.Stages.{sound_more};
+ghost use Rattle.layers.specs.Laws.{floor_laws};
 
 use store::{Fault, Store};
 
@@ -35,7 +34,7 @@ impl<S: Store> Store for Floor<S> {
 
     const KIND: u8 = LETTER;
 
-    ghost means = { λ f s. sound_more _ _ (S.Store.means f.below s) tt (omega arith) };
+    ghost means = { λ f s. floor_laws _ f.amount (S.Store.means f.below s) };
 
     fn held(&self) -> u32 {
         self.below.held()

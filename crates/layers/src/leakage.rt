@@ -2,8 +2,7 @@
 ghost use Rattle.std.specs.Prelude.{◌≡◌, min, OnErr};
 ghost use Rattle.store.specs.Meaning.{Charged, Drawn, Drained, Ticked};
 ghost use Rattle.layers.specs.Leakage.{new_leakage, leak_of, kept, leakage_means, LeakageSound, Leaked, SameLeak};
-ghost use Rattle.std.proofs.Common.{arith};
-ghost use Rattle.store.proofs.Stages.{sound_more};
+ghost use Rattle.layers.specs.Laws.{leakage_laws};
 
 use rates::{OutOfRange, PARTS};
 use store::{Fault, Store};
@@ -52,7 +51,7 @@ impl<S: Store> Store for Leakage<S> {
 
     const KIND: u8 = b'L';
 
-    ghost means = { λ l s. sound_more _ _ (S.Store.means l.below s.0) tt (omega arith) };
+    ghost means = { λ l s. leakage_laws _ (S.Store.means l.below s.0) };
 
     fn held(&self) -> u32 {
         self.below.held()

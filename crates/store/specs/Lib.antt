@@ -1,4 +1,4 @@
 pub mod Meaning
 pub mod Capacitor
 pub mod Bank
-pub mod Cells
+pub mod Laws

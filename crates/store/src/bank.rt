@@ -2,8 +2,7 @@
 ghost use Rattle.std.specs.Prelude.{◌≡◌, ◌-◌, ◌^◌, ◌≤◌, min, length, take, IfOk, sum, OnErr, OnOk};
 ghost use Rattle.store.specs.Meaning.{Charged, Drawn, Drained, Ticked};
 ghost use Rattle.store.specs.Bank.{with_none, new_bank, filled, emptied, with_held, bank_means, BankSound};
-ghost use Rattle.std.proofs.Common.{rules};
-ghost use Rattle.store.specs.Cells.{within_sum};
+ghost use Rattle.store.specs.Laws.{bank_laws};
 
 use crate::fault::Fault;
 use crate::store::Store;
@@ -84,7 +83,7 @@ impl Store for Bank {
 
     const KIND: u8 = b'F';
 
-    ghost means = { λ b s. let within = within_sum b.capacities b.held s.0 in Prim.search rules };
+    ghost means = { bank_laws };
 
     fn held(&self) -> u32 {
         total(&self.held)

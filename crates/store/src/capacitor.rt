@@ -2,7 +2,7 @@
 ghost use Rattle.std.specs.Prelude.{◌≡◌, IfOk, OnErr, OnOk};
 ghost use Rattle.store.specs.Meaning.{Charged, Drawn, Drained, Ticked};
 ghost use Rattle.store.specs.Capacitor.{new_capacitor, capacitor_means, CapacitorSound, filled, emptied};
-ghost use Rattle.std.proofs.Common.{rules};
+ghost use Rattle.store.specs.Laws.{capacitor_laws};
 
 use crate::fault::Fault;
 use crate::store::Store;
@@ -38,7 +38,7 @@ impl Store for Capacitor {
 
     const KIND: u8 = b'C';
 
-    ghost means = { Prim.search rules };
+    ghost means = { capacitor_laws };
 
     fn held(&self) -> u32 {
         self.held

@@ -1,6 +1,6 @@
 use Rattle.std.proofs.Common.{◌≡◌, ◌-◌, ◌++◌, length, get_or, take, set, replicate, ap, ◌∙◌, arith}
 use Rattle.std.proofs.lemmas.List.{take_all}
-use Rattle.store.specs.Cells.{with_none_more}
+use Rattle.store.proofs.Cells.{with_none_more}
 use Rattle.store.proofs.bank.padded.Goals as goal
 
 pub loop-i-preserved : goal.loop-i-preserved

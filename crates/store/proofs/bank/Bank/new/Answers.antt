@@ -1,5 +1,5 @@
 use Rattle.std.proofs.Common.{◌≤◌, length, replicate, Ok, sum, sym, ap, ◌∙◌, arith}
-use Rattle.store.specs.Cells.{bank_made, with_none_sum, with_none_within}
+use Rattle.store.proofs.Cells.{bank_made, with_none_sum, with_none_within}
 use Rattle.store.proofs.bank.Bank.new.Goals as goal
 
 pub returns : goal.returns

@@ -3,7 +3,7 @@ use Rattle.std.proofs.lemmas.List.{take_all, drop_all, append-nil}
 use Rattle.std.proofs.lemmas.List.Sums.{sum_by-set}
 use Rattle.store.specs.declared.bank.Bank.{Bank}
 use Rattle.store.specs.Bank.{filled, with_held}
-use Rattle.store.specs.Cells.{filled_sum, filled_within, filled_more}
+use Rattle.store.proofs.Cells.{filled_sum, filled_within, filled_more}
 use Rattle.store.proofs.bank.BankStore.charge.Goals as goal
 
 pub loop-i-preserved : goal.loop-i-preserved

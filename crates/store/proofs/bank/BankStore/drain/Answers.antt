@@ -3,7 +3,7 @@ use Rattle.std.proofs.lemmas.List.{take_all, drop_all, append-nil}
 use Rattle.std.proofs.lemmas.List.Sums.{sum_by-drop_more}
 use Rattle.store.specs.declared.bank.Bank.{Bank}
 use Rattle.store.specs.Bank.{emptied, with_held}
-use Rattle.store.specs.Cells.{emptied_sum, emptied_within, emptied_at, emptied_more}
+use Rattle.store.proofs.Cells.{emptied_sum, emptied_within, emptied_at, emptied_more}
 use Rattle.store.proofs.bank.BankStore.drain.Goals as goal
 
 pub loop-i-init : goal.loop-i-init

@@ -1,5 +1,5 @@
 use Rattle.std.proofs.Common.{arith}
-use Rattle.store.specs.Cells.{within_sum}
+use Rattle.store.specs.Laws.{within_sum}
 use Rattle.store.proofs.bank.BankStore.held.Goals as goal
 
 pub returns : goal.returns

@@ -3,16 +3,8 @@ use Rattle.std.specs.Prelude.{◌≡◌, ℕ, zero, suc, ◌+◌, ◌-◌, ◌<�
 use Rattle.std.proofs.Common.{sym, ap, subst, ◌∙◌, append_assoc, arith, length-append, le-leb}
 use Rattle.std.proofs.lemmas.List.{take_more, take_more_set, drop_more, drop-set-lt, get_or_append_left, get_or-take, length-take-le, length-replicate, set_at}
 use Rattle.std.proofs.lemmas.List.Sums.{sum_by-cons, sum_by-append}
+use Rattle.store.specs.Laws.{sum_cons, within_sum}
 use Rattle.store.specs.Bank.{Within, filled, emptied, with_none, new_bank}
-
-sum_cons : (x : ℕ) (xs : List ℕ) → sum (x ∷ xs) ≡ x + sum xs
-sum_cons x xs = sum_by-cons (λ y. y) x xs
-
-pub within_sum : (cs hs : List ℕ) → Within cs hs → sum hs ≤ sum cs
-within_sum [] [] w = omega arith
-within_sum [] (h ∷ hs) w = elim w [ ]
-within_sum (c ∷ cs) [] w = elim w [ ]
-within_sum (c ∷ cs) (h ∷ hs) w = omega (arith, w.0, within_sum cs hs w.1, sum_cons c cs, sum_cons h hs)
 
 pub filled_sum : (q : ℕ) (cs hs : List ℕ) → Within cs hs → sum (filled q cs hs) ≡ sum hs + min q (sum cs - sum hs)
 filled_sum q [] [] w = omega arith
