@@ -1,4 +1,6 @@
 // Reads frames from standard input, one to a line, and writes one answer line for each.
+#![tactic(auto)]
+
 use frame::Line;
 use simulator::Simulator;
 use std::alloc::Global;

@@ -1,5 +1,5 @@
 -- The figures, worked out.
-use Rattle.std.proofs.Common.{◌≡◌, ℕ, ◌+◌, ◌-◌, min, sym, refl, ap, ◌∙◌, subst}
+use Rattle.std.proofs.Common.{◌≡◌, ℕ, ◌+◌, ◌-◌, min, refl, ap, ◌∙◌}
 use Rattle.store.specs.Meaning.{Meaning}
 use Rattle.store.specs.Capacitor.{capacitor_means}
 use Rattle.tables.specs.Reserves.{level_at, charge_loss}

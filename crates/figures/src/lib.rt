@@ -1,4 +1,6 @@
 // The worked figures, as one statement about the definitions that the contracts of the libraries name.
+#![tactic(auto)]
+
 ghost use Rattle.std.specs.Prelude.{◌≡◌};
 ghost use Rattle.figures.specs.Figures.{Figures};
 

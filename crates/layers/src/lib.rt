@@ -1,4 +1,6 @@
 // Layers over any store: each adds one stage on top.
+#![tactic(auto)]
+
 mod floor;
 mod leakage;
 

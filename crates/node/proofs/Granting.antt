@@ -1,6 +1,5 @@
 -- A grant: the tables and the store together decide it.
-use Rattle.std.proofs.Common.{◌≡◌, ℕ, ◌+◌, ◌<◌, ◌≤◌, min, Bool, true, false, cond, ◌&&◌, ltb, List, [], ◌∷◌, ◌++◌, length, Some, None, Ok, Err, Option, sym, refl, ap, ◌∙◌, subst, arith, le-ltb, lt-ltb, eq-eqb}
-use Rattle.rates.specs.Amount.{bound}
+use Rattle.std.proofs.Common.{◌≡◌, ℕ, ◌+◌, ◌<◌, min, Bool, true, false, cond, ◌&&◌, ltb, List, [], ◌∷◌, ◌++◌, length, Some, None, Ok, Err, sym, refl, ap, ◌∙◌, arith, le-ltb, lt-ltb, eq-eqb}
 use Rattle.store.specs.Meaning.{Meaning, Sound, top, fault_from, Drawn}
 use Rattle.tables.specs.declared.grants.Grant.{Grant}
 use Rattle.tables.specs.declared.books.Books.{Books}
@@ -15,7 +14,7 @@ use Rattle.node.specs.declared.denial.Overdraw.{Overdraw}
 use Rattle.node.specs.Standing.{Standing}
 use Rattle.node.specs.Calls.{request, granted}
 use Rattle.node.specs.Rules.{first_of, request_tests, turned_down}
-use Rattle.node.specs.Steps.{State, Step}
+use Rattle.node.specs.Steps.{Step}
 use Rattle.node.specs.Sound.{Whole}
 use Rattle.node.proofs.Places.{none_some}
 use Rattle.node.proofs.Facts.{cleared, facts}

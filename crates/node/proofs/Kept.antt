@@ -1,5 +1,5 @@
 -- Every call leaves a whole state whole: well made, and counted within 64 bits.
-use Rattle.std.proofs.Common.{◌≡◌, ℕ, ◌+◌, ◌-◌, ◌<◌, ◌≤◌, true, false, [], ◌∷◌, ◌++◌, length, sym, refl, subst, arith, length-append}
+use Rattle.std.proofs.Common.{◌≡◌, ℕ, ◌≤◌, true, false, [], ◌∷◌, length, sym, refl, subst, arith, length-append}
 use Rattle.rates.specs.Amount.{bound}
 use Rattle.store.specs.Meaning.{Sound}
 use Rattle.tables.specs.declared.books.Books.{Books}

@@ -8,7 +8,7 @@ use Rattle.node.specs.Calls.{History}
 use Rattle.node.specs.Steps.{totals_in}
 use Rattle.node.specs.Node.{SoundNode}
 use Rattle.node.specs.Law.{Law, standing_after, outstanding}
-use Rattle.node.specs.Runs.{Run, Lawful}
+use Rattle.node.specs.Runs.{Lawful}
 use Rattle.node.proofs.Tale.{Tale, books_of, retold}
 use Rattle.node.proofs.Ledger.{outstanding_none}
 use Rattle.node.proofs.Accounts.{accounts}

@@ -2,7 +2,7 @@
 use Rattle.std.proofs.Common.{◌≡◌, ℕ, ◌+◌, ◌<◌, ◌≤◌, Bool, true, false, cond, not, eqb, List, [], ◌∷◌, ◌++◌, Some, None, Option, sym, refl, ap, ◌∙◌, arith}
 use Rattle.std.proofs.lemmas.Bool.{and_parts, eqb-true, ne_eqb, false≢true}
 use Rattle.tables.specs.declared.grants.Grant.{Grant}
-use Rattle.tables.specs.Grants.{or_else, grant_of, out_with, fits_out, is_parked, fits_parked, without, mark, marked}
+use Rattle.tables.specs.Grants.{or_else, grant_of, out_with, fits_out, is_parked, fits_parked, without, marked}
 use Rattle.node.specs.Sound.{Ledger}
 use Rattle.node.specs.Law.{outstanding}
 

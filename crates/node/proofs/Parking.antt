@@ -1,14 +1,13 @@
 -- A slip that is recalled and parked again leaves the node as it was.
-use Rattle.std.proofs.Common.{◌≡◌, ℕ, true, false, ◌++◌, take, drop, Some, None, sym, refl, ap, ◌∙◌, subst}
+use Rattle.std.proofs.Common.{◌≡◌, ℕ, true, false, ◌++◌, take, drop, Some, None, sym, ap, ◌∙◌}
 use Rattle.std.proofs.lemmas.List.{take-append-drop}
 use Rattle.std.proofs.lemmas.Bool.{not-false}
 use Rattle.store.specs.Meaning.{Meaning}
 use Rattle.tables.specs.declared.grants.Grants.{Grants}
-use Rattle.tables.specs.Grants.{open_in, fits_out, fits_parked, marked}
+use Rattle.tables.specs.Grants.{open_in, fits_parked, marked}
 use Rattle.node.specs.declared.node.Node.{Node}
 use Rattle.node.specs.declared.denial.Denial.{Denial}
 use Rattle.node.specs.declared.slip.Slip.{Slip}
-use Rattle.node.specs.Standing.{Standing}
 use Rattle.node.specs.Calls.{park, recall}
 use Rattle.node.specs.Rules.{tests, turned_down}
 use Rattle.node.specs.Sound.{Well}

@@ -1,5 +1,5 @@
 -- A settlement: what the store takes back always fits the reserve and the root.
-use Rattle.std.proofs.Common.{◌≡◌, ℕ, ◌+◌, ◌-◌, ◌<◌, ◌≤◌, Bool, true, false, cond, not, ◌&&◌, eqb, ltb, List, [], ◌∷◌, Some, None, sym, refl, ap, ◌∙◌, arith, le-ltb, eq-eqb}
+use Rattle.std.proofs.Common.{◌≡◌, ℕ, ◌-◌, ◌≤◌, true, false, cond, not, ◌&&◌, eqb, ltb, List, Some, None, sym, refl, ap, ◌∙◌, arith, le-ltb, eq-eqb}
 use Rattle.store.specs.Meaning.{Meaning, Sound, Charged}
 use Rattle.tables.specs.declared.grants.Grant.{Grant}
 use Rattle.tables.specs.declared.books.Books.{Books}

@@ -1,5 +1,5 @@
 -- A tick: the loss is charged whole, the intake always fits the root, and every tap has a rate.
-use Rattle.std.proofs.Common.{◌≡◌, ℕ, ◌+◌, ◌-◌, ◌<◌, ◌≤◌, cond, ltb, leb, List, [], ◌∷◌, length, get_or, take, Some, None, Option, sym, refl, ap, ◌∙◌, subst, arith, le-ltb}
+use Rattle.std.proofs.Common.{◌≡◌, ℕ, ◌+◌, ◌<◌, ◌≤◌, cond, ltb, leb, List, length, get_or, take, Some, None, Option, refl, ap, ◌∙◌, subst, arith, le-ltb}
 use borrow.Author.Tests.{lt-leb}
 use Rattle.std.proofs.lemmas.List.{take_all}
 use Rattle.rates.specs.Amount.{bound}
@@ -8,7 +8,7 @@ use Rattle.tables.specs.declared.taps.Tap.{Tap}
 use Rattle.tables.specs.declared.grants.Grant.{Grant}
 use Rattle.tables.specs.declared.books.Books.{Books}
 use Rattle.tables.specs.Rows.{each}
-use Rattle.tables.specs.Reserves.{ReserveRows, give, fill, charge_loss}
+use Rattle.tables.specs.Reserves.{ReserveRows, fill, charge_loss}
 use Rattle.tables.specs.Taps.{TapRows, TapFits, stepped, after_moves, Figures}
 use Rattle.tables.specs.Books.{count_tick}
 use Rattle.node.specs.declared.denial.Denial.TheVariants.{ShortReport, OutOfRange, Exhausted}

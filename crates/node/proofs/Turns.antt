@@ -1,5 +1,5 @@
 -- The turns of the taps in one tick, one after the other.
-use Rattle.std.proofs.Common.{◌≡◌, ℕ, zero, suc, ◌+◌, ◌<◌, ◌≤◌, List, [], ◌∷◌, ◌++◌, length, get_or, take, drop, set, Some, None, Option, sym, refl, ap, ◌∙◌, subst, append_assoc, arith}
+use Rattle.std.proofs.Common.{◌≡◌, ℕ, zero, suc, ◌+◌, ◌<◌, ◌≤◌, List, [], ◌∷◌, ◌++◌, length, get_or, take, drop, set, None, Option, sym, refl, ap, ◌∙◌, subst, append_assoc, arith}
 use lib.Seq.{set_at}
 use Rattle.std.proofs.lemmas.List.{take_more, take_more_set, take_all, drop_more, drop_all, append-nil, get_or_at, length-take-le}
 use Rattle.tables.specs.declared.taps.Tap.{Tap}

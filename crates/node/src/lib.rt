@@ -1,4 +1,6 @@
 // Reserves, taps and grants over a store of harvested energy.
+#![tactic(auto)]
+
 mod denial;
 mod node;
 mod slip;

@@ -1,4 +1,6 @@
 // Amounts and their bounds, and the constant rate.
+#![tactic(auto)]
+
 mod amount;
 mod rate;
 

@@ -1,4 +1,6 @@
 // What a store of harvested energy means, and the two stores.
+#![tactic(auto)]
+
 mod bank;
 mod capacitor;
 mod fault;

@@ -1,4 +1,6 @@
 // The tables of a node, plain rows of numbers: reserves, constant taps, grants and books.
+#![tactic(auto)]
+
 mod books;
 mod grants;
 mod reserves;

@@ -1,4 +1,6 @@
 // Worked figures and boundary cases of the libraries, each told beside what the rules expect of it.
+#![tactic(auto)]
+
 mod bank;
 mod call;
 mod capacitor;

@@ -33,7 +33,9 @@ impl Tally<'_> {
         let Ok(came) = came.to_string(self.rt.alloc()) else {
             return;
         };
-        self.as_expected = self.as_expected.saturating_add(u32::from(came.as_str() == expected));
+        self.as_expected = self
+            .as_expected
+            .saturating_add(u32::from(came.as_str() == expected));
         self.print(what, expected, came.as_str());
     }
 

@@ -1,4 +1,4 @@
-use Rattle.std.proofs.Common.{take, sum, ap, arith, rules}
+use Rattle.std.proofs.Common.{sum, ap, arith}
 use Rattle.std.proofs.lemmas.List.{take_all}
 use Rattle.std.proofs.lemmas.List.Sums.{sum_by_more}
 use Rattle.store.proofs.bank.total.Goals as goal

@@ -1,4 +1,4 @@
-use Rattle.std.proofs.Common.{◌-◌, refl, ap, ◌∙◌, ⊎_elim, arith}
+use Rattle.std.proofs.Common.{◌-◌, refl, ap, ⊎_elim, arith}
 use Rattle.store.proofs.Stages.{refused_top, drawn_more, refused_weaker}
 use Rattle.layers.proofs.floor.FloorStore.draw.Goals as goal
 

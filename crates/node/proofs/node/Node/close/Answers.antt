@@ -1,6 +1,6 @@
-use Rattle.std.proofs.Common.{◌≡◌, ℕ, ◌+◌, ◌≤◌, get_or, set, Some, None, sym, refl, ap, ◌∙◌, arith}
+use Rattle.std.proofs.Common.{◌≡◌, set, None, sym, refl, ap, ◌∙◌}
 use Rattle.std.proofs.lemmas.Result.{err_from_is_err_and}
-use Rattle.tables.specs.Reserves.{ReserveRows, level_in, parent_in, level_at, parent_of, fill_up, return_to}
+use Rattle.tables.specs.Reserves.{ReserveRows, level_in, parent_in, level_at, parent_of, fill_up}
 use Rattle.node.specs.Calls.{close_reserve, closed}
 use Rattle.node.specs.Rules.{with_reserves}
 use Rattle.node.specs.Node.{standing_of, store_means}

@@ -1,4 +1,3 @@
-use Rattle.std.proofs.Common.{arith}
 use Rattle.node.specs.Calls.{settled}
 use Rattle.node.specs.Node.{standing_of, store_means}
 use Rattle.node.proofs.Goes.{goes}

@@ -1,4 +1,4 @@
-use Rattle.std.proofs.Common.{◌≡◌, ◌≤◌, length, sym, arith, rules}
+use Rattle.std.proofs.Common.{◌≡◌, length, sym, arith, rules}
 use Rattle.std.proofs.lemmas.List.{take_all}
 use Rattle.store.proofs.bank.Bank.cells.Goals as goal
 

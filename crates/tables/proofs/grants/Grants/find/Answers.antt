@@ -1,4 +1,4 @@
-use Rattle.std.proofs.Common.{◌≡◌, ℕ, ◌+◌, ◌-◌, ◌<◌, false, List, length, drop, None, sym, ap, ◌∙◌, arith, eq-eqb, ne_eqb}
+use Rattle.std.proofs.Common.{◌≡◌, ◌+◌, ◌-◌, false, List, length, drop, None, sym, ap, ◌∙◌, arith, eq-eqb, ne_eqb}
 use Rattle.tables.specs.declared.grants.Grant.{Grant}
 use Rattle.tables.specs.Grants.{grant_of}
 use Rattle.tables.proofs.GrantLaws.{grant_of_here, grant_of_on, grant_of_none}
