@@ -215,6 +215,7 @@ impl<S: Store> Node<S> {
         ensures step { Extends (S.Store) self.old (ticking harvest report.new result) self.new }
         ensures same { OnErr result ((self.new ≡ self.old) × (report.new ≡ report.old)) }
         ensures further { drop 96 report.new ≡ drop 96 report.old }
+        ensures grants { self.new.grants ≡ self.old.grants }
     {
         if report.len() < TAPS {
             return Err(Denial::ShortReport);

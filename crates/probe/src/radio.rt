@@ -1,5 +1,7 @@
 // A soil probe whose radio is fed by a tap, and sends whenever its dues cover a send.
-ghost use Rattle.std.specs.Prelude.{◌≡◌, ◌+◌, ◌-◌, ◌/◌, ◌^◌, min, nat_le};
+ghost use Rattle.std.specs.Prelude.{IfOk, IfErr, ◌≡◌, ◌+◌, ◌-◌, ◌/◌, ◌^◌, min, nat_le};
+ghost use Rattle.node.specs.Node.{IsOut};
+ghost use Rattle.probe.specs.Failure.{IsLetGo};
 
 use crate::failure::Failure;
 use crate::tally::Tally;
@@ -48,6 +50,7 @@ fn covers(due: u64, requested: u64) -> bool
 // Requests a grant for one send, and counts how it went.
 fn request<S: Store>(node: &mut Node<S>, tally: &mut Tally) -> Result<Slip, Denial>
     ensures requested { tally.new.requested ≡ min (tally.old.requested + 31) (2 ^ 64 - 1) }
+    ensures slip { IfOk result (λ slip. (slip.amount ≡ 31) × IsOut slip node.new) }
 {
     tally.request(SEND);
     match node.grant(RADIO_TASK, RADIO, SEND) {
@@ -63,7 +66,9 @@ fn request<S: Store>(node: &mut Node<S>, tally: &mut Tally) -> Result<Slip, Deni
 }
 
 // One tick, and then a send if the dues cover it; a denial is counted, and the send left out.
-fn turn<S: Store>(node: &mut Node<S>, tally: &mut Tally) -> Result<(), Failure> {
+fn turn<S: Store>(node: &mut Node<S>, tally: &mut Tally) -> Result<(), Failure>
+    ensures kept { IfErr result IsLetGo }
+{
     let mut report = [0; TAPS];
     let _ = node.tick(HARVEST, &mut report)?;
     tally.tick(report[0]);
@@ -76,7 +81,9 @@ fn turn<S: Store>(node: &mut Node<S>, tally: &mut Tally) -> Result<(), Failure> 
     Ok(())
 }
 
-fn show(rt: &impl Print, tally: &Tally) -> Result<(), Failure> {
+fn show(rt: &impl Print, tally: &Tally) -> Result<(), Failure>
+    ensures kept { IfErr result IsLetGo }
+{
     let ticks = tally.ticks;
     let due = due_after(ticks);
     let delivered = tally.delivered;
@@ -98,7 +105,9 @@ fn show(rt: &impl Print, tally: &Tally) -> Result<(), Failure> {
 }
 
 // One request more than the dues cover, and how often each refusal was met by then.
-fn hasten<S: Store>(rt: &impl Print, node: &mut Node<S>, tally: &mut Tally) -> Result<(), Failure> {
+fn hasten<S: Store>(rt: &impl Print, node: &mut Node<S>, tally: &mut Tally) -> Result<(), Failure>
+    ensures kept { IfErr result IsLetGo }
+{
     match request(node, tally) {
         Ok(slip) => {
             let lost = node.settle(slip, SEND)?;
@@ -114,7 +123,9 @@ fn hasten<S: Store>(rt: &impl Print, node: &mut Node<S>, tally: &mut Tally) -> R
     Ok(())
 }
 
-pub fn tell(rt: &impl Print) -> Result<(), Failure> {
+pub fn tell(rt: &impl Print) -> Result<(), Failure>
+    ensures kept { IfErr result IsLetGo }
+{
     println!(rt;
         "A soil probe has a capacitor of {CAPACITY} quanta and a harvest of {HARVEST} a tick."
     )?;

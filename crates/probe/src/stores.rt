@@ -1,5 +1,6 @@
 // A bank, and a capacitor under a floor under leakage, each for a few ticks.
-ghost use Rattle.std.specs.Prelude.{◌≡◌, ◌-◌};
+ghost use Rattle.std.specs.Prelude.{IfErr, ◌≡◌, ◌-◌};
+ghost use Rattle.probe.specs.Failure.{IsLetGo};
 
 use crate::failure::Failure;
 use layers::{Floor, Leakage};
@@ -12,7 +13,9 @@ const ROOT_TASK: u8 = 0;
 
 const TAPS: usize = 96;
 
-fn tick<S: Store>(rt: &impl Print, node: &mut Node<S>, harvest: u32) -> Result<(), Failure> {
+fn tick<S: Store>(rt: &impl Print, node: &mut Node<S>, harvest: u32) -> Result<(), Failure>
+    ensures kept { IfErr result IsLetGo }
+{
     let mut report = [0; TAPS];
     let (loss, intake) = node.tick(harvest, &mut report)?;
     println!(rt; "A tick with a harvest of {harvest} loses {loss} and takes in {intake}.")?;
@@ -20,7 +23,9 @@ fn tick<S: Store>(rt: &impl Print, node: &mut Node<S>, harvest: u32) -> Result<(
 }
 
 // Requests a grant from the root, and settles it with all used.
-fn spend<S: Store>(rt: &impl Print, node: &mut Node<S>, amount: u32) -> Result<(), Failure> {
+fn spend<S: Store>(rt: &impl Print, node: &mut Node<S>, amount: u32) -> Result<(), Failure>
+    ensures kept { IfErr result IsLetGo }
+{
     match node.grant(ROOT_TASK, ROOT, amount) {
         Ok(slip) => {
             let lost = node.settle(slip, amount)?;
@@ -42,7 +47,9 @@ fn returned(amount: u32, used: u32, lost: u32) -> u32
 }
 
 // The bank fills while a slip is out, so that not all that is unused finds room again.
-fn tell_settlement(rt: &impl Print, bank: Bank) -> Result<(), Failure> {
+fn tell_settlement(rt: &impl Print, bank: Bank) -> Result<(), Failure>
+    ensures kept { IfErr result IsLetGo }
+{
     let mut node = Node::new(bank);
     tick(rt, &mut node, 6)?;
     let slip = node.grant(ROOT_TASK, ROOT, 5)?;
@@ -56,7 +63,9 @@ fn tell_settlement(rt: &impl Print, bank: Bank) -> Result<(), Failure> {
     Ok(())
 }
 
-pub fn tell_bank(rt: &impl Print) -> Result<(), Failure> {
+pub fn tell_bank(rt: &impl Print) -> Result<(), Failure>
+    ensures kept { IfErr result IsLetGo }
+{
     let mut bank = Bank::new(&[5, 3, 2])?;
     let taken = bank.charge(7);
     let cells = bank.cells();
@@ -67,7 +76,9 @@ pub fn tell_bank(rt: &impl Print) -> Result<(), Failure> {
     tell_settlement(rt, bank)
 }
 
-pub fn tell_layers(rt: &impl Print) -> Result<(), Failure> {
+pub fn tell_layers(rt: &impl Print) -> Result<(), Failure>
+    ensures kept { IfErr result IsLetGo }
+{
     println!(rt; "A capacitor of 25 stands under a floor of 4, under a leakage of 1000 parts.")?;
     let floor = Floor::new(Capacitor::new(25)?, 4);
     let leakage = match Leakage::new(floor, 1_000) {

@@ -48,4 +48,5 @@ returns g c = record {
       (c.tick.ensures.after ∙ ap (count_tick c.args.harvest c.tick-loss.result c.charge-intake.result) inv.2));
   same = tt;
   further = c.loop-k.invariant.4;
+  grants = c.loop-k.invariant.1;
 }
