@@ -80,7 +80,7 @@ impl<S: Store> Store for Standby<S> {
     fn tick(&mut self) -> u32
         ensures sound { StandbySound (S.Store) self.old → StandbySound (S.Store) self.new }
         ensures ticked { StandbySound (S.Store) self.old → Ticked (standby_means (S.Store) self.old) result (standby_means (S.Store) self.new) }
-        ensures lost { StandbySound (S.Store) self.old → Lost (S.Store) self.old result self.new }
+        ensures after { StandbySound (S.Store) self.old → Lost (S.Store) self.old result self.new }
     {
         let loss = self.below.tick();
         let gone = self.below.drain(self.amount);

@@ -24,5 +24,5 @@ pub returns : goal.returns
 returns g c = record {
   sound = λ s. c.drain-gone.ensures.sound (c.tick-loss.ensures.sound s);
   ticked = λ s. ticked_lost g.S.Store _ _ _ (lost g c s);
-  lost = lost g c;
+  after = lost g c;
 }
