@@ -1,2 +1,3 @@
 pub mod Battery
 pub mod Standby
+pub mod Laws

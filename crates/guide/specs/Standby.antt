@@ -4,10 +4,11 @@
 --     standby_means G y    its meaning: that of the store below, with this stage on top
 --     StandbySound G y     the store below is sound
 --     with_below s y       the standby current y over the store s
---     standby_after G x y  y after the change x
+--     Lost G y r z         z is y after a tick that answered r
 --     standby_store G      its members as a store
+use Rattle.std.specs.Prelude.{◌≡◌, ℕ, ◌+◌}
 use Rattle.store.specs.declared.store.Store.{Ghosts}
-use Rattle.store.specs.Meaning.{Stage, Meaning, Change, charge, draw, drain, tick, meaning, with_stage, top}
+use Rattle.store.specs.Meaning.{Stage, Meaning, meaning, with_stage, top, Drained, Ticked}
 use Rattle.guide.specs.declared.standby.Standby.{Standby}
 
 abbrev pub with_below : {S : Type 0} → S → Standby S → Standby S
@@ -26,12 +27,16 @@ module _ {S : Type 0} (G : Ghosts S) where
   abbrev pub StandbySound : Standby S → Type 0
   StandbySound y = G.sound y.below
 
-  -- at a tick the store below ticks, and then the amount is drained from it
-  abbrev pub standby_after : Change → Standby S → Standby S
-  standby_after (charge q) y = with_below (G.after (charge q) y.below) y
-  standby_after (draw q) y = with_below (G.after (draw q) y.below) y
-  standby_after (drain q) y = with_below (G.after (drain q) y.below) y
-  standby_after tick y = with_below (G.after (drain y.amount) (G.after tick y.below)) y
+  -- the store below ticks, and is `between` then; then the amount is drained from it; both losses are told as one
+  pub record Lost (y : Standby S) (r : ℕ) (z : Standby S) : Type 0 where
+    pub between : S
+    pub loss : ℕ
+    pub gone : ℕ
+    pub sound : G.sound between
+    pub ticked : Ticked (below_means y) loss (below_means (with_below between y))
+    pub drained : Drained y.amount (below_means (with_below between y)) gone (below_means z)
+    pub told : r ≡ loss + gone
+    pub amount : z.amount ≡ y.amount
 
   abbrev pub standby_store : Ghosts (Standby S)
   standby_store = record {
@@ -39,5 +44,4 @@ module _ {S : Type 0} (G : Ghosts S) where
     capacity = λ y. (standby_means y).capacity;
     stages = λ y. (standby_means y).stages;
     sound = StandbySound;
-    after = standby_after;
   }

@@ -1,7 +1,8 @@
 // A battery: it comes full, all that it holds is available, and a tick loses 1 quantum of it.
-ghost use Rattle.std.specs.Prelude.{◌≡◌, IfOk};
-ghost use Rattle.guide.specs.Battery.{new_battery, battery_means, BatterySound, battery_after};
-ghost use Rattle.std.proofs.Common.{rules};
+ghost use Rattle.std.specs.Prelude.{◌≡◌, IfOk, OnErr, OnOk};
+ghost use Rattle.store.specs.Meaning.{Charged, Drawn, Drained, Ticked};
+ghost use Rattle.guide.specs.Battery.{new_battery, battery_means, BatterySound, filled, emptied};
+ghost use Rattle.guide.specs.Laws.{battery_laws};
 
 use rates::{G, OutOfRange};
 use store::{Fault, Store};
@@ -40,11 +41,9 @@ impl Store for Battery {
 
     ghost sound = { BatterySound };
 
-    ghost after = { battery_after };
-
     const KIND: u8 = b'B';
 
-    ghost means = { Prim.search rules };
+    ghost means = { battery_laws };
 
     fn held(&self) -> u32 {
         self.held
@@ -62,13 +61,22 @@ impl Store for Battery {
         0
     }
 
-    fn charge(&mut self, q: u32) -> u32 {
+    fn charge(&mut self, q: u32) -> u32
+        ensures sound { BatterySound self.old → BatterySound self.new }
+        ensures charged { BatterySound self.old → Charged q (battery_means self.old) result (battery_means self.new) }
+        ensures after { self.new ≡ filled q self.old }
+    {
         let added = q.min(self.capacity.saturating_sub(self.held));
         self.held += added;
         added
     }
 
-    fn draw(&mut self, q: u32) -> Result<(), Fault> {
+    fn draw(&mut self, q: u32) -> Result<(), Fault>
+        ensures sound { BatterySound self.old → BatterySound self.new }
+        ensures drawn { BatterySound self.old → Drawn q (battery_means self.old) result (battery_means self.new) }
+        ensures same { OnErr result (self.new ≡ self.old) }
+        ensures after { OnOk result (self.new ≡ emptied q self.old) }
+    {
         if q > self.held {
             return Err(Fault {
                 height: 0,
@@ -80,13 +88,21 @@ impl Store for Battery {
         Ok(())
     }
 
-    fn drain(&mut self, q: u32) -> u32 {
+    fn drain(&mut self, q: u32) -> u32
+        ensures sound { BatterySound self.old → BatterySound self.new }
+        ensures drained { BatterySound self.old → Drained q (battery_means self.old) result (battery_means self.new) }
+        ensures after { self.new ≡ emptied q self.old }
+    {
         let gone = q.min(self.held);
         self.held -= gone;
         gone
     }
 
-    fn tick(&mut self) -> u32 {
+    fn tick(&mut self) -> u32
+        ensures sound { BatterySound self.old → BatterySound self.new }
+        ensures ticked { BatterySound self.old → Ticked (battery_means self.old) result (battery_means self.new) }
+        ensures after { self.new ≡ emptied 1 self.old }
+    {
         self.drain(SELF_DISCHARGE)
     }
 }

@@ -1,4 +1,6 @@
 // A store and a layer of one's own, written over the crate `store` alone.
+#![tactic(auto)]
+
 mod battery;
 mod standby;
 

@@ -4,7 +4,7 @@ ghost use Rattle.radio.specs.declared.failure.Failure.TheVariants.{OutOfRange as
 
 use node::{Denial, Slip};
 use rates::OutOfRange;
-use std::io;
+use std::{fmt, io};
 
 pub enum Failure {
     // A store could not be made.
@@ -46,5 +46,19 @@ impl From<io::Error> for Failure {
 
     fn from(error: io::Error) -> Failure {
         Failure::Output(error)
+    }
+}
+
+impl fmt::Display for Failure {
+    fn fmt<W: fmt::Write>(&self, f: &mut fmt::Formatter<W>) -> fmt::Result {
+        match self {
+            Failure::OutOfRange => f.write_str("the store's numbers lie outside their range"),
+            Failure::Denied(denial) => write!(f, "{denial}"),
+            Failure::Returned(denial, slip) => {
+                let serial = slip.serial();
+                write!(f, "slip {serial} came back: {denial}")
+            }
+            Failure::Output(error) => write!(f, "{error}"),
+        }
     }
 }

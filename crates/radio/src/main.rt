@@ -1,7 +1,10 @@
 // A radio that lives on a battery: a node over a store and a layer of one's own.
-ghost use Rattle.std.specs.Prelude.{IfOk};
-ghost use Rattle.node.specs.Runs.{Reached, Lawful};
-ghost use Rattle.radio.specs.Supply.{supply_store, Balanced};
+#![tactic(auto)]
+
+ghost use Rattle.std.specs.Prelude.{IfOk, IfErr};
+ghost use Rattle.node.specs.Runs.{Lawful};
+ghost use Rattle.radio.specs.Supply.{supply_store, Reached, Balanced};
+ghost use Rattle.radio.specs.Failure.{IsLetGo};
 
 mod failure;
 
@@ -9,6 +12,7 @@ use failure::Failure;
 use guide::{Battery, Standby};
 use node::{Denial, Node, Totals};
 use rates::OutOfRange;
+use std::process::ExitCode;
 use store::Store;
 
 const ROOT: u8 = 0;
@@ -57,6 +61,7 @@ fn wait<S: Store>(node: &mut Node<S>, ticks: u32) -> Result<u32, Denial>
 // A grant for the radio, whose slip is parked at once: its serial.
 fn request<S: Store>(node: &mut Node<S>, amount: u32) -> Result<u32, Failure>
     ensures run { Reached (S.Store) node.old → Reached (S.Store) node.new }
+    ensures kept { IfErr result IsLetGo }
 {
     let slip = node.grant(RADIO_TASK, RADIO, amount)?;
     Ok(node.park(slip)?)
@@ -70,6 +75,7 @@ fn request_either<S: Store>(
     enough: u32,
 ) -> Result<u32, Failure>
     ensures run { Reached (S.Store) node.old → Reached (S.Store) node.new }
+    ensures kept { IfErr result IsLetGo }
 {
     match request(node, wanted) {
         Err(Failure::Denied(denial)) => {
@@ -80,12 +86,20 @@ fn request_either<S: Store>(
     }
 }
 
-// The slip is recalled, and settled with so much used: what of the rest was lost.
+// The slip is recalled, and settled with so much used: what of the rest was lost. Where that is refused, the slip is
+// parked again: it is out, so its parking is not refused.
 fn send<S: Store>(node: &mut Node<S>, serial: u32, used: u32) -> Result<u32, Failure>
     ensures run { Reached (S.Store) node.old → Reached (S.Store) node.new }
+    ensures kept { IfErr result IsLetGo }
 {
     let slip = node.recall(RADIO_TASK, serial)?;
-    Ok(node.settle(slip, used)?)
+    match node.settle(slip, used) {
+        Ok(lost) => Ok(lost),
+        Err((denial, slip)) => {
+            let _ = node.park(slip)?;
+            Err(Failure::Denied(denial))
+        }
+    }
 }
 
 // The law holds over this store too.
@@ -98,6 +112,7 @@ fn audit(node: &Node<Standby<Battery>>) -> Totals
 // So what the radio's node has counted balances, whatever was denied on the way.
 fn tell(rt: &impl Print) -> Result<Totals, Failure>
     ensures balance { IfOk result Balanced }
+    ensures kept { IfErr result IsLetGo }
 {
     let mut node = powered(100, 2)?;
     feed_radio(&mut node)?;
@@ -109,8 +124,11 @@ fn tell(rt: &impl Print) -> Result<Totals, Failure>
     Ok(audit(&node))
 }
 
-fn main(rt: HostRuntime) -> Result<(), Failure> {
-    let totals = tell(&rt)?;
+// The totals at the end are told in one sentence.
+fn report(rt: &impl Print) -> Result<(), Failure>
+    ensures kept { IfErr result IsLetGo }
+{
+    let totals = tell(rt)?;
     let received = totals.received;
     let held = totals.held;
     let open = totals.open;
@@ -120,4 +138,18 @@ fn main(rt: HostRuntime) -> Result<(), Failure> {
         "Of {received} quanta {held} are held, {open} open, {spent} spent and {lost} lost."
     )?;
     Ok(())
+}
+
+// A failure is told as one line of standard error. It holds no slip, so it is let go.
+fn main(rt: HostRuntime) -> ExitCode {
+    match report(&rt) {
+        Ok(()) => ExitCode::SUCCESS,
+        Err(failure) => {
+            let _ = eprintln!(rt; "radio: {failure}");
+            match failure {
+                Failure::OutOfRange | Failure::Denied(_) | Failure::Output(_) => ExitCode::FAILURE,
+                Failure::Returned(_, _slip) => unreachable!(),
+            }
+        }
+    }
 }

@@ -1,24 +1,28 @@
-use Rattle.std.proofs.Common.{refl, ap, ◌∙◌, subst}
-use Rattle.store.specs.Meaning.{Ticked, drain}
-use Rattle.store.proofs.Stages.{ticked_more, ticked_drained, told_whole}
-use Rattle.guide.specs.declared.standby.Standby.{Standby}
-use Rattle.guide.specs.Standby.{with_below, below_means}
+use Rattle.std.proofs.Common.{refl}
+use Rattle.guide.specs.Standby.{StandbySound, Lost}
+use Rattle.guide.proofs.Losses.{told_whole, ticked_lost}
+use Rattle.guide.proofs.standby.StandbyStore.tick.Given.{Over}
 use Rattle.guide.proofs.standby.StandbyStore.tick.Goals as goal
 
-pub returns : goal.returns
-returns g c =
-    let old = c.args.self.now in
-    let new : Standby g.row.S.Denot = with_below c.drain-gone.new.self old in
+lost : (g : Over) (c : goal.After-saturating_add g) → StandbySound g.S.Store c.args.self.now → Lost g.S.Store c.args.self.now c.saturating_add.result (record { below = c.drain-gone.new.self; amount = c.args.self.now.amount })
+lost g c s =
+    let between = c.tick-loss.ensures.sound s in
+    let ticked = c.tick-loss.ensures.ticked s in
+    let drained = c.drain-gone.ensures.drained between in
     record {
-      sound = λ s. c.drain-gone.ensures.sound (c.tick-loss.ensures.sound s);
-      ticked = λ s.
-          let t = c.tick-loss.ensures.ticked s in
-          let d = c.drain-gone.ensures.drained (c.tick-loss.ensures.sound s) in
-          let told = told_whole _ _ _ _ _ _ t d c.saturating_add.result (g.met.S.Store.means old.below s) c.saturating_add.ensures in
-          ticked_more (below_means g.S.Store old) (below_means g.S.Store new) _ _ refl _
-          (subst (λ n. Ticked (below_means g.S.Store old) n (below_means g.S.Store new)) told (ticked_drained _ _ _ _ _ _ t d));
-      after = λ s.
-          ap (λ b. with_below b old)
-          (c.drain-gone.ensures.after (c.tick-loss.ensures.sound s)
-          ∙ ap (g.S.Store.after (drain old.amount)) (c.tick-loss.ensures.after s));
+      between = c.tick-loss.new.self;
+      loss = c.tick-loss.result;
+      gone = c.drain-gone.result;
+      sound = between;
+      ticked = ticked;
+      drained = drained;
+      told = told_whole _ _ _ _ _ _ ticked drained _ (g.met.S.Store.means c.args.self.now.below s) c.saturating_add.ensures;
+      amount = refl;
     }
+
+pub returns : goal.returns
+returns g c = record {
+  sound = λ s. c.drain-gone.ensures.sound (c.tick-loss.ensures.sound s);
+  ticked = λ s. ticked_lost g.S.Store _ _ _ (lost g c s);
+  after = lost g c;
+}
