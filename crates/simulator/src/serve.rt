@@ -10,7 +10,7 @@ use store::Store;
 const TAPS: usize = 96;
 
 fn done(res: Result<(), Denial>) -> Result<Answer, FrameFault>
-    ensures res { result ≡ done_of res }
+    ensures result { result ≡ done_of res }
 {
     match res {
         Ok(()) => Ok(Answer::Done),
@@ -19,7 +19,7 @@ fn done(res: Result<(), Denial>) -> Result<Answer, FrameFault>
 }
 
 fn told(res: Result<(u32, u32), Denial>) -> Result<Answer, FrameFault>
-    ensures res { result ≡ told_of res }
+    ensures result { result ≡ told_of res }
 {
     match res {
         Ok((loss, intake)) => Ok(Answer::Ticked { loss, intake }),
