@@ -4,8 +4,9 @@ import pathlib
 import subprocess
 
 ROOT = pathlib.Path(__file__).resolve().parent.parent
-TARGET = ROOT / "target"
-PEER = TARGET / "peer"
+CINDERSIM = ROOT / "crates" / "cindersim" / "out" / "cindersim"
+OUT = ROOT / "peer" / "out"
+PEER = OUT / "peer"
 
 
 class Missing(Exception):
@@ -13,14 +14,13 @@ class Missing(Exception):
 
 
 def cindersim():
-    path = TARGET / "bin" / "cindersim"
-    if not path.exists():
-        raise Missing(f"there is no {path}; build it with: rt check cindersim")
-    return path
+    if not CINDERSIM.exists():
+        raise Missing(f"there is no {CINDERSIM}; build it by rt run in crates/cindersim")
+    return CINDERSIM
 
 
 def build_peer():
-    TARGET.mkdir(exist_ok=True)
+    OUT.mkdir(exist_ok=True)
     command = ["rustc", "-O", "--edition", "2021", "-o", PEER, ROOT / "peer" / "main.rs"]
     if subprocess.run(command).returncode:
         raise Missing("the peer does not compile")
