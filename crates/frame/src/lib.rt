@@ -1,4 +1,6 @@
 // Lines of hexadecimal digits, the frames that they are, and the lines that answer them.
+#![tactic(auto)]
+
 mod answer;
 mod bytes;
 mod digits;
