@@ -4,7 +4,7 @@ use Rattle.store.specs.declared.store.Store.{Ghosts}
 use Rattle.rates.specs.declared.amount.OutOfRange.{OutOfRange as Outside}
 use Rattle.node.specs.declared.node.Node.{Node}
 use Rattle.node.specs.Calls.{Event, History}
-use Rattle.node.specs.Node.{Newborn, Extends, SoundNode}
+use Rattle.node.specs.Node.{Extends, SoundNode}
 use Rattle.node.specs.Runs.{Run, new, next}
 use Rattle.frame.specs.declared.frame.Frame.{Frame}
 use Rattle.frame.specs.declared.frame.Frame.TheVariants.{Capacitor as CapacitorFrame, Layered as LayeredFrame, Bank as BankFrame, Open, Close, Tap, Shut, Grant, Settle, Tick, Audit}
@@ -14,7 +14,7 @@ use Rattle.simulator.specs.declared.simulator.Simulator.{Simulator}
 use Rattle.simulator.specs.declared.simulator.Simulator.TheVariants.{Empty, Single, Layered, Cells}
 use Rattle.store.specs.Capacitor.{capacitor_store}
 use Rattle.store.specs.Bank.{bank_store}
-use Rattle.simulator.specs.Simulator.{ReachedOn, Reached, Made, Built, Builds, Stands, ServesOn, ServesIn, Serves, Replied, Replies, frame_in, ranged, layered_store, single_of, layered_of, cells_of, Parks, SettledWith, Ends, SameIfRefused}
+use Rattle.simulator.specs.Simulator.{ReachedOn, Reached, Built, Builds, Stands, ServesOn, ServesIn, Serves, Replied, Replies, frame_in, ranged, layered_store, single_of, layered_of, cells_of, Parks, SettledWith, Ends, SameIfRefused}
 
 module _ {S : Type 0} (G : Ghosts S) where
   pub on : (n m : Node S) (e : Event) → Extends G n e m → ReachedOn G n → ReachedOn G m
@@ -82,7 +82,8 @@ first (Settle t s u) made r s' b stands = nothing made _ r s' b stands
 first (Tick h) made r s' b stands = nothing made _ r s' b stands
 first Audit made r s' b stands = nothing made _ r s' b stands
 
-served : (s : Simulator) (f : Frame) (r : Result Answer FrameFault) (s' : Simulator) → Serves s f r s' → Reached s → Reached s'
+-- whatever the frame is
+pub served : (s : Simulator) (f : Frame) (r : Result Answer FrameFault) (s' : Simulator) → Serves s f r s' → Reached s → Reached s'
 served Empty f r s' p at = first f p.0 r s' p.1 p.2
 served (Single n) f r s' p at = serving_in capacitor_store Single (λ n x. x) n f r s' p at
 served (Layered n) f r s' p at = serving_in layered_store Layered (λ n x. x) n f r s' p at

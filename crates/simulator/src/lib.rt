@@ -1,4 +1,6 @@
 // A line in, an answer line out.
+#![tactic(auto)]
+
 mod serve;
 mod simulator;
 

@@ -1,5 +1,4 @@
-use Rattle.std.proofs.Common.{◌≡◌, true, Ok, Err, sym, refl, ap, ◌∙◌, subst}
-use Rattle.node.specs.declared.slip.Slip.{Slip}
+use Rattle.std.proofs.Common.{true, Ok, Err, sym, ap, ◌∙◌, subst}
 use Rattle.node.specs.Calls.{parked}
 use Rattle.node.specs.Node.{store_means, IsOut, Extends, Marked}
 use Rattle.node.proofs.Parking.{out_parks, there_and_back}
