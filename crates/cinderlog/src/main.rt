@@ -1,4 +1,6 @@
 // Replays a script of frames, and tells it in sentences: each line, and what they come to.
+#![tactic(auto)]
+
 mod balance;
 mod matter;
 mod sentence;
@@ -6,7 +8,7 @@ mod session;
 mod table;
 
 use session::Session;
-use std::io;
+use std::process::ExitCode;
 
 const HELP: &str = "cinderlog: a script of frames told in sentences, and its refusals counted
 
@@ -25,7 +27,12 @@ After the last line come
   the seven totals of the node that stands, and whether they balance
 ";
 
-fn main(rt: HostRuntime) -> io::Result<()> {
-    let mut session = Session::new(rt.alloc(), rt.stdout())?;
-    filter::run(&rt, "cinderlog", HELP, &mut session)
+fn main(rt: HostRuntime) -> ExitCode {
+    match Session::new(rt.alloc(), rt.stdout()) {
+        Ok(mut session) => filter::run(&rt, "cinderlog", HELP, &mut session),
+        Err(error) => {
+            let _ = eprintln!(rt; "cinderlog: {error}");
+            ExitCode::FAILURE
+        }
+    }
 }

@@ -8,10 +8,10 @@ use crate::balance::Balance;
 use crate::sentence::{Entry, NoFrame};
 use crate::table;
 use filter::Script;
-use frame::{Answer, Frame, FrameFault, FrameFaultFromBadLine, decode};
+use frame::{Answer, Frame, FrameFault, decode};
 use recount::Recount;
 use simulator::Simulator;
-use std::alloc::{AllocError, Global};
+use std::alloc::Global;
 use std::io;
 use std::io::{BufWriter, Stdout, Write};
 
@@ -34,15 +34,16 @@ fn frame_of(line: &[u8]) -> Result<Frame, FrameFault>
 
 impl Session {
     // Nothing stands, and nothing is told.
-    pub fn new(heap: Global, output: Stdout) -> Result<Session, AllocError>
+    pub fn new(heap: Global, output: Stdout) -> io::Result<Session>
         ensures counts { IfOk result (λ s. Counts [] s.recount) }
     {
         let recount = Recount::new(heap)?;
+        let output = BufWriter::new(heap, output)?;
         Ok(Session {
             simulator: Simulator::new(),
             recount,
             ticks: 0,
-            output: BufWriter::new(heap, output).map_err(|_| std::alloc::AllocError)?,
+            output,
         })
     }
 

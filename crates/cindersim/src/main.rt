@@ -1,15 +1,20 @@
 // Reads frames from standard input, one to a line, and writes one answer line for each.
 #![tactic(auto)]
 
-use frame::Line;
-use simulator::Simulator;
-use std::alloc::Global;
-use std::io::{BufWriter, Read, Stdin, Stdout, Write};
-use std::{env, io};
+ghost use Rattle.std.specs.Prelude.{◌≡◌, ◌≤◌, Result, IfOk, OnOk};
+ghost use Rattle.frame.specs.declared.answer.Answer.{Answer};
+ghost use Rattle.frame.specs.declared.fault.FrameFault.{FrameFault};
+ghost use Rattle.simulator.specs.Simulator.{Replies};
 
-const CHUNK: usize = 65_536;
+use filter::Script;
+use simulator::Simulator;
+use std::io;
+use std::io::{Stdout, Write};
+use std::process::ExitCode;
 
 const ROOM: usize = 160;
+
+const HELD: usize = 65_536;
 
 const HELP: &str =
     "cindersim: a node's reserves, taps and grants over harvested energy, driven by frames
@@ -46,72 +51,65 @@ An accepted frame is answered 00 and the fields told, a refused one its number:
                                        a stage of the store lacks so much
 ";
 
-// A script as far as it has been read: what stands, the line that has begun, and where answers go.
+// The most that is held of the answers before they are written: there is room for one more.
+const FULL: usize = HELD - ROOM;
+
+// A simulator, with the answers that are not written yet.
 #[derive(Drop)]
 struct Session {
     simulator: Simulator,
-    line: Line,
-    output: BufWriter<Stdout>,
+    output: Stdout,
+    answers: [u8; HELD],
+    len: usize,
+    ghost within: { len ≤ 65536 },
 }
 
 impl Session {
-    // Answers the line, and begins the next.
-    fn answer(&mut self) -> io::Result<()> {
-        let mut out = [0; ROOM];
-        if let Ok(len) = self.simulator.answer(self.line.as_slice(), &mut out) {
-            self.output.write_all(&out[0..len])?;
-        }
-        self.line.clear();
+    // Writes the answers that are held.
+    fn write(&mut self) -> io::Result<()>
+        ensures after { OnOk result (self.new.len ≡ 0) }
+        ensures same { self.new.simulator ≡ self.old.simulator }
+    {
+        self.output.write_all(&self.answers[..self.len])?;
+        self.len = 0;
         Ok(())
     }
 
-    fn take(&mut self, chunk: &[u8]) -> io::Result<()> {
-        for b in chunk {
-            if *b == b'\n' {
-                self.answer()?;
-            } else {
-                self.line.push(*b);
-            }
+    // Writes the answers that are held, where there is no room for one more.
+    fn make_room(&mut self) -> io::Result<()>
+        ensures within { OnOk result (self.new.len ≤ 65376) }
+        ensures same { self.new.simulator ≡ self.old.simulator }
+    {
+        if self.len > FULL {
+            self.write()?;
         }
         Ok(())
-    }
-
-    // Takes what comes next; false where the input has ended.
-    fn read(&mut self, input: &mut Stdin, chunk: &mut [u8]) -> io::Result<bool> {
-        let len = input.read(chunk)?;
-        self.take(&chunk[0..len])?;
-        Ok(len > 0)
     }
 }
 
-// Answers every line; a last one that is not empty may lack its line feed.
-fn run(alloc: Global, mut input: Stdin, output: Stdout) -> io::Result<()> {
+impl Script for Session {
+    // The simulator replies to the line.
+    ghost hears = { λ s line s'. (a : Result Answer FrameFault) × Replies s.simulator line a s'.simulator };
+
+    fn line(&mut self, line: &[u8]) -> io::Result<()> {
+        self.make_room()?;
+        if let Ok(len) = self.simulator.answer(line, &mut self.answers[self.len..]) {
+            self.len += len;
+        }
+        Ok(())
+    }
+
+    fn flush(&mut self) -> io::Result<()> {
+        self.write()
+    }
+}
+
+fn main(rt: HostRuntime) -> ExitCode {
     let mut session = Session {
         simulator: Simulator::new(),
-        line: Line::new(),
-        output: BufWriter::new(alloc, output)?,
+        output: rt.stdout(),
+        answers: [0; HELD],
+        len: 0,
     };
-    let mut chunk = [0; CHUNK];
-    for _ in 0..u64::MAX {
-        if !session.read(&mut input, &mut chunk)? {
-            break;
-        }
-    }
-    if !session.line.as_slice().is_empty() {
-        session.answer()?;
-    }
-    session.output.flush()
-}
-
-fn main(rt: HostRuntime) -> io::Result<()> {
-    let mut args = env::args(&rt)?;
-    let _ = args.next();
-    match args.next() {
-        None => run(rt.alloc(), rt.stdin(), rt.stdout()),
-        Some(word) if word.as_str() == "--help" => rt.print(HELP),
-        Some(word) => {
-            eprintln!(rt; "cindersim: no argument is taken but --help, and '{word}' is none")?;
-            Err(io::Error::from(io::ErrorKind::InvalidInput))
-        }
-    }
+    filter::run(&rt, "cindersim", HELP, &mut session)
 }

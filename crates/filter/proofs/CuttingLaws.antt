@@ -1,10 +1,10 @@
 -- What one turn of the loops over a script does. Assumes nothing.
-use Rattle.std.proofs.Common.{◌≡◌, ℕ, zero, suc, ◌+◌, ◌-◌, ◌<◌, ◌≤◌, min, Bool, true, false, cond, eqb, List, [], ◌∷◌, ◌++◌, length, get_or, take, drop, IfOk, Some, None, Ok, Err, Option, Result, sym, refl, ap, ◌∙◌, subst, inl, inr, append_assoc, append-nil, add-one, arith, length-drop}
+use Rattle.std.proofs.Common.{◌≡◌, ℕ, zero, suc, ◌+◌, ◌-◌, ◌<◌, ◌≤◌, min, true, false, cond, eqb, List, [], ◌∷◌, ◌++◌, length, get_or, take, drop, IfOk, Some, None, Ok, Err, Option, Result, sym, refl, ap, ◌∙◌, subst, inl, inr, append_assoc, append-nil, add-one, arith, length-drop}
 use Rattle.std.proofs.lemmas.List.{take_rest, length-take-le, get_or-take, get_or-drop}
 use Rattle.std.proofs.lemmas.Bool.Decides.{eqb_tells, leb_tells}
 use Rattle.frame.specs.declared.line.Line.{Line}
 use Rattle.frame.specs.Line.{cut, kept, HasRead}
-use Rattle.frame.proofs.LineLaws.{cut-more, take-least}
+use Rattle.frame.proofs.LineLaws.{cut_more, take_least}
 use Rattle.filter.specs.declared.script.Script.{Ghosts}
 use Rattle.filter.specs.Cutting.{further, place, Clear, lines_from, begun_from, Led, Fed}
 
@@ -125,7 +125,7 @@ module _ {S : Type 0} (G : Ghosts S) where
       → IfOk r (λ _. G.hears s (take (n - 0) bs) s') → IfOk r (λ _. G.hears s (cut (xs ++ bs)) s')
   hears_cut r s s' xs bs n fresh least h =
       let z : n - 0 ≡ n = omega arith in
-      let e : take (n - 0) bs ≡ cut (xs ++ bs) = ap (λ k. take k bs) z ∙ take-least 81 n bs least ∙ ap (λ t. cut (t ++ bs)) (sym fresh) in
+      let e : take (n - 0) bs ≡ cut (xs ++ bs) = ap (λ k. take k bs) z ∙ take_least 81 n bs least ∙ ap (λ t. cut (t ++ bs)) (sym fresh) in
       subst (λ (t : List ℕ). IfOk r (λ _. G.hears s t s')) e h
 
   led_more : (s : S) (ls : List (List ℕ)) (m s' : S) (l : List ℕ) → Led G s ls m → G.hears m (cut l) s' → Led G s (ls ++ l ∷ []) s'
@@ -153,7 +153,7 @@ module _ {S : Type 0} (G : Ghosts S) where
       let z : n - 0 ≡ n = omega arith in
       let line : List ℕ = f.ys ++ take n rest in
       let heard : cut (kept l ++ take (n - 0) rest) ≡ cut line =
-      cut-more l f.ys (take (n - 0) rest) f.read ∙ ap (λ k. cut (f.ys ++ take k rest)) z in
+      cut_more l f.ys (take (n - 0) rest) f.read ∙ ap (λ k. cut (f.ys ++ take k rest)) z in
       let left : take (length rest - (n + 1)) (drop (n + 1) rest) ≡ drop (suc n) rest =
       take_rest rest (n + 1) ∙ ap (λ k. drop k rest) (add-one n) in
       record {
@@ -176,5 +176,5 @@ module _ {S : Type 0} (G : Ghosts S) where
       let all : lines_from xs bs ≡ f.done = f.lines_so ∙ ap (λ t. f.done ++ t) u.none ∙ append-nil f.done in
       record {
         led = subst (λ ls. Led G s ls s') (sym all) f.led_so;
-        begun = k ∙ cut-more l f.ys rest f.read ∙ ap cut (sym (f.begun_so ∙ u.whole));
+        begun = k ∙ cut_more l f.ys rest f.read ∙ ap cut (sym (f.begun_so ∙ u.whole));
       }

@@ -24,7 +24,8 @@ fn has_feed(bytes: &[u8]) -> bool
 
 // Passes over a block of bytes from a place on, if there are so many and no line feed is among them.
 fn pass(bytes: &[u8], at: usize, block: usize) -> usize
-    requires { (at ≤ length bytes.now) × (Clear bytes.now at) }
+    requires within { at ≤ length bytes.now }
+    requires clear { Clear bytes.now at }
     ensures within { result ≤ length bytes.now }
     ensures clear { Clear bytes.now result }
 {

@@ -1,4 +1,6 @@
 // What the programs share: a script read from standard input, cut into lines, and handed over line by line.
+#![tactic(auto)]
+
 mod cutting;
 mod program;
 mod script;

@@ -5,6 +5,7 @@ use crate::cutting::feed;
 use crate::script::Script;
 use frame::Line;
 use std::io::{ErrorKind, Read, Stdin};
+use std::process::ExitCode;
 use std::{env, io};
 
 const CHUNK: usize = 65_536;
@@ -50,20 +51,20 @@ fn take_all<S: Script>(script: &mut S, mut input: Stdin) -> Result<(), Stop> {
     Ok(script.flush()?)
 }
 
-// Tells on standard error why the script was not taken to its end; that nobody reads on is no failure.
-fn tell(rt: &HostRuntime, name: &str, res: Result<(), Stop>) -> io::Result<()> {
+// How a program ends, which tells on standard error why the script was not taken to its end; that nobody reads on is no failure.
+fn tell(rt: &HostRuntime, name: &str, res: Result<(), Stop>) -> ExitCode {
     match res {
-        Ok(()) => Ok(()),
+        Ok(()) => ExitCode::SUCCESS,
         Err(Stop::Input(error)) => {
-            eprintln!(rt; "{name}: standard input can't be read: {error}")?;
-            Err(error)
+            let _ = eprintln!(rt; "{name}: standard input can't be read: {error}");
+            ExitCode::FAILURE
         }
         Err(Stop::Output(error)) => {
             if error.kind() == ErrorKind::BrokenPipe {
-                return Ok(());
+                return ExitCode::SUCCESS;
             }
-            eprintln!(rt; "{name}: standard output can't be written: {error}")?;
-            Err(error)
+            let _ = eprintln!(rt; "{name}: standard output can't be written: {error}");
+            ExitCode::FAILURE
         }
     }
 }
@@ -72,16 +73,19 @@ fn show(rt: &HostRuntime, help: &str) -> Result<(), Stop> {
     Ok(rt.print(help)?)
 }
 
-// Runs a program that takes no argument but `--help`.
-pub fn run<S: Script>(rt: &HostRuntime, name: &str, help: &str, script: &mut S) -> io::Result<()> {
-    let mut args = env::args(rt)?;
+// Runs a program that takes no argument but `--help`. It fails with one line on standard error, and else writes none there.
+pub fn run<S: Script>(rt: &HostRuntime, name: &str, help: &str, script: &mut S) -> ExitCode {
+    let Ok(mut args) = env::args(rt) else {
+        let _ = eprintln!(rt; "{name}: the arguments can't be read");
+        return ExitCode::FAILURE;
+    };
     let _ = args.next();
     match args.next() {
         None => tell(rt, name, take_all(script, rt.stdin())),
-        Some(word) if word == "--help" => tell(rt, name, show(rt, help)),
+        Some(word) if word.as_str() == "--help" => tell(rt, name, show(rt, help)),
         Some(word) => {
-            eprintln!(rt; "{name}: no argument is taken but --help, and '{word}' is none")?;
-            Err(io::Error::from(ErrorKind::InvalidInput))
+            let _ = eprintln!(rt; "{name}: no argument is taken but --help, and '{word}' is none");
+            ExitCode::FAILURE
         }
     }
 }

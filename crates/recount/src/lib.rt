@@ -1,4 +1,6 @@
 // What the answers to a script come to: how many lines, accepted and refused, and who was denied how much.
+#![tactic(auto)]
+
 mod denials;
 mod lack;
 mod recount;

@@ -82,7 +82,8 @@ first (Settle t s u) made r s' b stands = nothing made _ r s' b stands
 first (Tick h) made r s' b stands = nothing made _ r s' b stands
 first Audit made r s' b stands = nothing made _ r s' b stands
 
-served : (s : Simulator) (f : Frame) (r : Result Answer FrameFault) (s' : Simulator) → Serves s f r s' → Reached s → Reached s'
+-- whatever the frame is
+pub served : (s : Simulator) (f : Frame) (r : Result Answer FrameFault) (s' : Simulator) → Serves s f r s' → Reached s → Reached s'
 served Empty f r s' p at = first f p.0 r s' p.1 p.2
 served (Single n) f r s' p at = serving_in capacitor_store Single (λ n x. x) n f r s' p at
 served (Layered n) f r s' p at = serving_in layered_store Layered (λ n x. x) n f r s' p at

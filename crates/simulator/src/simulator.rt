@@ -93,6 +93,7 @@ impl Simulator {
     }
 
     fn serve(&mut self, frame: Frame) -> Result<Answer, FrameFault>
+        ensures run { Reached self.old → Reached self.new }
         ensures serves { Serves self.old frame result self.new }
         ensures same { Reached self.old → SameIfRefused result self.old self.new }
     {
@@ -107,7 +108,9 @@ impl Simulator {
         }
     }
 
-    fn reply(&mut self, line: &[u8]) -> Result<Answer, FrameFault>
+    // What the line is answered, or why it is refused.
+    pub fn reply(&mut self, line: &[u8]) -> Result<Answer, FrameFault>
+        ensures run { Reached self.old → Reached self.new }
         ensures replies { Replies self.old line.now result self.new }
         ensures same { Reached self.old → SameIfRefused result self.old self.new }
     {

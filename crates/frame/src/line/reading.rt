@@ -37,6 +37,16 @@ impl Line {
         }
     }
 
+    // Reads more bytes, and keeps those that are among the first 81.
+    pub fn extend(&mut self, more: &[u8])
+        ensures after { kept self.new ≡ cut (kept self.old ++ more.now) }
+        ensures whole { (xs : List ℕ) → HasRead xs self.old → HasRead (xs ++ more.now) self.new }
+    {
+        let taken = more.len().min(MOST - self.len);
+        self.front[self.len..self.len + taken].copy_from_slice(&more[0..taken]);
+        self.len += taken;
+    }
+
     // Begins the next line.
     pub fn clear(&mut self)
         ensures after { kept self.new ≡ [] }

@@ -1,4 +1,4 @@
-use Rattle.std.proofs.Common.{sym, rules}
+use Rattle.std.proofs.Common.{sym}
 use Rattle.filter.proofs.CuttingLaws.{place_at, place_none}
 use Rattle.filter.proofs.cutting.line_end.Goals as goal
 

@@ -6,5 +6,5 @@ pub returns-then-not-has_feed : goal.returns-then-not-has_feed
 returns-then-not-has_feed c =
     record {
       within = search rules;
-      clear = clear_more c.args.bytes.now c.args.at c.args.block (search rules) c.requires.1 (c.has_feed.ensures.clear (search rules));
+      clear = clear_more c.args.bytes.now c.args.at c.args.block (search rules) c.requires.clear (c.has_feed.ensures.clear (search rules));
     }
