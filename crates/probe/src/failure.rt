@@ -23,7 +23,7 @@ pub enum Failure {
 
 impl Failure {
     // The status that the program ends with. A slip can't be let go, here neither, and none is there.
-    pub fn end(self) -> ExitCode
+    pub(crate) fn end(self) -> ExitCode
         requires { IsLetGo self }
     {
         match self {
