@@ -5,7 +5,9 @@ usage: python3 tools/spelling.py     at the top of the repository
 
 A definition, a field, a constructor or a lemma that is written with dashes is written in snake case, and a type or a fact in
 upper camel case. Names that Rattle makes for goals and names of the library stay, and so do functions of src/, strings,
-inputs and outputs. A name that would fall together with another is told, and nothing is written.
+inputs and outputs. Comments stay but for the index of words at the head of a file. A definition whose new name is that of a
+free function of src/ ends in `_lem` (BESIDE); one whose new name is that of a method takes it (METHODS). Any other name that
+would fall together with one that is there, or with another new one, is told, and then nothing is written.
 """
 
 import glob

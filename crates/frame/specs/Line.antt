@@ -1,5 +1,5 @@
 -- Lines as they are read. Assumes nothing.
---     cut xs             the first 81 bytes of xs, enough to tell an over_long line by
+--     cut xs             the first 81 bytes of xs, enough to tell an over-long line by
 --     kept l             what the line l keeps
 --     HasRead xs l       l keeps just the first 81 bytes of xs
 use Rattle.std.specs.Prelude.{◌≡◌, ℕ, List, take}

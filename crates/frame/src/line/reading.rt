@@ -1,4 +1,4 @@
-// How a line takes one byte more.
+// How a line takes one byte more, or a piece of many.
 ghost use Rattle.std.specs.Prelude.{◌≡◌, ℕ, ◌+◌, ◌<◌, List, [], ◌∷◌, ◌++◌, slice_set};
 ghost use Rattle.frame.specs.Line.{kept, cut, HasRead};
 
