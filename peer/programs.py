@@ -15,7 +15,7 @@ class Missing(Exception):
 
 def cindersim():
     if not CINDERSIM.exists():
-        raise Missing(f"there is no {CINDERSIM}; build it by rt run in crates/cindersim")
+        raise Missing(f"there is no {CINDERSIM}; build it by rt run < stdin in crates/cindersim")
     return CINDERSIM
 
 
