@@ -72,7 +72,7 @@ impl Session {
 }
 
 impl Script for Session {
-    ghost hears = { λ s line s'. Logged s line s' };
+    ghost hears = { Logged };
 
     fn line(&mut self, line: &[u8]) -> io::Result<()> {
         let answer = self.answer(line);

@@ -12,11 +12,20 @@ take_take_append zero xs ys = refl
 take_take_append (suc n) [] ys = refl
 take_take_append (suc n) (x ∷ xs) ys = ap (λ t. x ∷ t) (take_take_append n xs ys)
 
+-- what a line keeps tells as much of what follows as all that it has read
+pub cut_more : (l : Line) (xs ys : List ℕ) → HasRead xs l → cut (kept l ++ ys) ≡ cut (xs ++ ys)
+cut_more l xs ys r = ap (λ t. cut (t ++ ys)) r ∙ take_take_append 81 xs ys
+
+-- what a line should keep of more bytes is what it should keep of all that it has then read
+pub has_read_all :
+    (l : Line) (now ys : List ℕ) → now ≡ cut (kept l ++ ys) → (xs : List ℕ) → HasRead xs l → now ≡ cut (xs ++ ys)
+has_read_all l now ys e xs r = e ∙ cut_more l xs ys r
+
 -- a line that keeps what it should of one byte more has read that byte too
 pub has_read_more :
     (l m : Line) (b : ℕ) → kept m ≡ cut (kept l ++ b ∷ []) → (xs : List ℕ) → HasRead xs l
     → HasRead (xs ++ b ∷ []) m
-has_read_more l m b e xs r = e ∙ ap (λ t. cut (t ++ b ∷ [])) r ∙ take_take_append 81 xs (b ∷ [])
+has_read_more l m b e = has_read_all l (kept m) (b ∷ []) e
 
 -- where there is room, the byte stands after those kept
 pub kept_room :
@@ -51,15 +60,6 @@ take_least k n ys e =
       | inl h ↦ take_all n ys (omega arith) ∙ sym (take_all k ys (omega arith))
       | inr h ↦ let same : n ≡ k = omega arith in ap (λ i. take i ys) same
     ]
-
--- what a line keeps tells as much of what follows as all that it has read
-pub cut_more : (l : Line) (xs ys : List ℕ) → HasRead xs l → cut (kept l ++ ys) ≡ cut (xs ++ ys)
-cut_more l xs ys r = ap (λ t. cut (t ++ ys)) r ∙ take_take_append 81 xs ys
-
--- what a line should keep of more bytes is what it should keep of all that it has then read
-pub has_read_all :
-    (l : Line) (now ys : List ℕ) → now ≡ cut (kept l ++ ys) → (xs : List ℕ) → HasRead xs l → now ≡ cut (xs ++ ys)
-has_read_all l now ys e xs r = e ∙ cut_more l xs ys r
 
 -- n bytes of ys, as many as there is room for, stand after those kept
 pub kept_more :

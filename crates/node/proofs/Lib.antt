@@ -22,3 +22,4 @@ pub mod Pace
 pub mod Root
 pub mod Lawful
 pub mod Parking
+pub mod Reaching

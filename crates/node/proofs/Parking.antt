@@ -1,5 +1,5 @@
--- A slip that is recalled and parked again leaves the node as it was.
-use Rattle.std.proofs.Common.{◌≡◌, ℕ, true, false, ◌++◌, take, drop, Some, None, sym, ap, ◌∙◌}
+-- A slip that is out is parked and settled, and one that is recalled and parked again leaves the node as it was.
+use Rattle.std.proofs.Common.{◌≡◌, ℕ, ◌≤◌, true, false, ◌++◌, take, drop, Some, None, sym, ap, ◌∙◌}
 use Rattle.std.proofs.lemmas.List.{take-append-drop}
 use Rattle.std.proofs.lemmas.Bool.{not-false}
 use Rattle.store.specs.Meaning.{Meaning}
@@ -8,18 +8,28 @@ use Rattle.tables.specs.Grants.{open_in, fits_parked, marked}
 use Rattle.node.specs.declared.node.Node.{Node}
 use Rattle.node.specs.declared.denial.Denial.{Denial}
 use Rattle.node.specs.declared.slip.Slip.{Slip}
-use Rattle.node.specs.Calls.{park, recall}
+use Rattle.node.specs.Calls.{settle, park, recall}
 use Rattle.node.specs.Rules.{tests, turned_down}
 use Rattle.node.specs.Sound.{Well}
 use Rattle.node.specs.Node.{standing_of, IsOut, Marked}
 use Rattle.node.proofs.Places.{none_some}
 use Rattle.node.proofs.Facts.{cleared}
 use Rattle.node.proofs.Ledger.{marked_back}
-use Rattle.node.proofs.Settling.{park_clear}
+use Rattle.node.proofs.Settling.{settle_clear, park_clear}
 
 -- a slip that is out is parked, not turned down
 pub out_parks : {S : Type 0} (n : Node S) (slip : Slip) (m : Meaning) (d : Denial) → IsOut slip n → turned_down m (standing_of n) (park slip.serial slip.amount) ≡ Some d → ⊥
 out_parks n slip m d out why = none_some (sym (park_clear m (standing_of n) slip.serial slip.amount out) ∙ why)
+
+-- and settled, whatever of its amount was used
+pub out_settles : {S : Type 0} (n : Node S) (slip : Slip) (used : ℕ) (m : Meaning) (d : Denial) → IsOut slip n → used ≤ slip.amount
+    → turned_down m (standing_of n) (settle slip.serial slip.amount used) ≡ Some d → ⊥
+out_settles n slip used m d out within why =
+    none_some (sym (settle_clear m (standing_of n) slip.serial slip.amount used out within) ∙ why)
+
+-- whatever leaves the grants as they are leaves it out
+pub stays_out : {S : Type 0} (n m : Node S) (slip : Slip) → m.grants ≡ n.grants → IsOut slip n → IsOut slip m
+stays_out n m slip e out = rw e out
 
 same_grants : (a b c : Grants) (serial : ℕ) → marked true serial (marked false serial (open_in a)) ≡ open_in a
     → open_in b ≡ marked false serial (open_in a) → b.count ≡ a.count → drop a.count b.rows ≡ drop a.count a.rows → b.serials ≡ a.serials

@@ -1,11 +1,9 @@
 // What ends the story early.
 ghost use Rattle.std.specs.Prelude.{◌≡◌};
-ghost use Rattle.probe.specs.Failure.{IsLetGo};
 ghost use Rattle.probe.specs.declared.failure.Failure.TheVariants.{OutOfRange as Outside, Fault as Refused, Denied, Returned, Output};
 
 use node::{Denial, Slip};
 use rates::OutOfRange;
-use std::process::ExitCode;
 use std::{fmt, io};
 use store::Fault;
 
@@ -19,19 +17,6 @@ pub enum Failure {
     // A node refused a slip, which came back.
     Returned(Denial, Slip),
     Output(io::Error),
-}
-
-impl Failure {
-    // The status that the program ends with. A slip can't be let go, here neither, and none is there.
-    pub(crate) fn end(self) -> ExitCode
-        requires { IsLetGo self }
-    {
-        match self {
-            Failure::Returned(_, slip) => unreachable!(),
-            Failure::OutOfRange | Failure::Fault(_) | Failure::Denied(_) | Failure::Output(_) =>
-                ExitCode::FAILURE,
-        }
-    }
 }
 
 impl From<OutOfRange> for Failure {

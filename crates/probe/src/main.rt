@@ -20,13 +20,17 @@ fn tell(rt: &impl Print) -> Result<(), Failure>
     stores::tell_layers(rt)
 }
 
-// Whatever ends the story early, no slip is left over.
+// A failure is told as one line of standard error. It holds no slip, so it is let go.
 fn main(rt: HostRuntime) -> ExitCode {
     match tell(&rt) {
         Ok(()) => ExitCode::SUCCESS,
         Err(failure) => {
             let _ = eprintln!(rt; "probe: {failure}");
-            failure.end()
+            match failure {
+                Failure::OutOfRange | Failure::Fault(_) | Failure::Denied(_) | Failure::Output(_) =>
+                    ExitCode::FAILURE,
+                Failure::Returned(_, _slip) => unreachable!(),
+            }
         }
     }
 }

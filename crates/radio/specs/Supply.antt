@@ -1,13 +1,9 @@
--- The store that the radio's node stands over, and what holds of that node. Assumes nothing.
+-- The store that the radio's node stands over, and what holds of its totals. Assumes nothing.
 --     supply_store     a standby current over a battery: its members as a store
---     Reached G n      the node n, over a store whose members are G, is reached by a run of calls from a new node
 --     Balanced t       what was received is held, open, spent or lost
 use Rattle.std.specs.Prelude.{◌≡◌, ◌+◌}
 use Rattle.store.specs.declared.store.Store.{Ghosts}
-use Rattle.node.specs.declared.node.Node.{Node}
 use Rattle.node.specs.declared.totals.Totals.{Totals}
-use Rattle.node.specs.Calls.{History}
-use Rattle.node.specs.Runs.{Run}
 use Rattle.guide.specs.declared.battery.Battery.{Battery}
 use Rattle.guide.specs.declared.standby.Standby.{Standby}
 use Rattle.guide.specs.Battery.{battery_store}
@@ -15,9 +11,6 @@ use Rattle.guide.specs.Standby.{standby_store}
 
 abbrev pub supply_store : Ghosts (Standby Battery)
 supply_store = standby_store battery_store
-
-abbrev pub Reached : {S : Type 0} → Ghosts S → Node S → Type 0
-Reached {S} G n = (birth : S) × (h : History) × Run G birth h n
 
 abbrev pub Balanced : Totals → Type 0
 Balanced t = t.received ≡ t.held + t.«open» + t.spent + t.lost

@@ -2,8 +2,8 @@
 #![tactic(auto)]
 
 ghost use Rattle.std.specs.Prelude.{IfOk, IfErr};
-ghost use Rattle.node.specs.Runs.{Lawful};
-ghost use Rattle.radio.specs.Supply.{supply_store, Reached, Balanced};
+ghost use Rattle.node.specs.Runs.{Reached, Lawful};
+ghost use Rattle.radio.specs.Supply.{supply_store, Balanced};
 ghost use Rattle.radio.specs.Failure.{IsLetGo};
 
 mod failure;

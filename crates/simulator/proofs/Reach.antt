@@ -1,11 +1,12 @@
 -- A node that is reached stays reached, whatever line is answered; and a node that is reached is sound.
-use Rattle.std.proofs.Common.{◌≡◌, ℕ, List, [], ◌∷◌, IfErr, Ok, Err, Result, sym, ap, ◌∙◌, subst}
+use Rattle.std.proofs.Common.{◌≡◌, ℕ, List, [], IfErr, Ok, Err, Result, sym, ap, ◌∙◌, subst}
 use Rattle.store.specs.declared.store.Store.{Ghosts}
 use Rattle.rates.specs.declared.amount.OutOfRange.{OutOfRange as Outside}
 use Rattle.node.specs.declared.node.Node.{Node}
 use Rattle.node.specs.Calls.{Event, History}
 use Rattle.node.specs.Node.{Extends, SoundNode}
 use Rattle.node.specs.Runs.{Run, new, next}
+use Rattle.node.proofs.Reaching.{called}
 use Rattle.frame.specs.declared.frame.Frame.{Frame}
 use Rattle.frame.specs.declared.frame.Frame.TheVariants.{Capacitor as CapacitorFrame, Layered as LayeredFrame, Bank as BankFrame, Open, Close, Tap, Shut, Grant, Settle, Tick, Audit}
 use Rattle.frame.specs.declared.fault.FrameFault.{FrameFault}
@@ -18,7 +19,7 @@ use Rattle.simulator.specs.Simulator.{ReachedOn, Reached, Built, Builds, Stands,
 
 module _ {S : Type 0} (G : Ghosts S) where
   pub on : (n m : Node S) (e : Event) → Extends G n e m → ReachedOn G n → ReachedOn G m
-  on n m e x at = (at.0, e ∷ at.1, next at.2 e m x)
+  on n m e x at = called x at
 
   stays : (n m : Node S) → m ≡ n → ReachedOn G n → ReachedOn G m
   stays n m same at = subst (ReachedOn G) (sym same) at

@@ -28,9 +28,9 @@ use Rattle.node.specs.declared.denial.Denial.TheVariants.{OutOfRange}
 use Rattle.node.specs.declared.slip.Slip.{Slip}
 use Rattle.node.specs.declared.node.Node.{Node}
 use Rattle.node.specs.declared.totals.Totals.{Totals}
-use Rattle.node.specs.Calls.{History, parked, audited}
+use Rattle.node.specs.Calls.{parked, audited}
 use Rattle.node.specs.Node.{Newborn, Extends, opening, closing, tapping, shutting, granting, settling, recalling, ticking}
-use Rattle.node.specs.Runs.{Run, Lawful}
+use Rattle.node.specs.Runs.{Reached as ReachedNode, Lawful}
 use Rattle.frame.specs.declared.frame.Frame.{Frame}
 use Rattle.frame.specs.declared.frame.Frame.TheVariants.{Capacitor as CapacitorFrame, Layered as LayeredFrame, Bank as BankFrame, Open, Close, Tap, Shut, Grant, Settle, Tick, Audit}
 use Rattle.frame.specs.declared.fault.FrameFault.{FrameFault}
@@ -50,7 +50,7 @@ abbrev pub layered_store : Ghosts Layers
 layered_store = leakage_store (floor_store capacitor_store)
 
 abbrev pub ReachedOn : {S : Type 0} → Ghosts S → Node S → Type 0
-ReachedOn {S} G n = (birth : S) × (h : History) × Run G birth h n
+ReachedOn G n = ReachedNode G n
 
 abbrev pub Reached : Simulator → Type 0
 Reached Empty = Unit {0}

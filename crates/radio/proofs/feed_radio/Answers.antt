@@ -1,4 +1,4 @@
-use Rattle.radio.proofs.Reaching.{called}
+use Rattle.node.proofs.Reaching.{called}
 use Rattle.radio.proofs.feed_radio.Goals as goal
 
 pub returns : goal.returns

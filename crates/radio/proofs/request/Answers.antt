@@ -1,6 +1,6 @@
 use Rattle.node.specs.Node.{store_means}
 use Rattle.node.proofs.Parking.{out_parks}
-use Rattle.radio.proofs.Reaching.{called}
+use Rattle.node.proofs.Reaching.{called}
 use Rattle.radio.proofs.request.Goals as goal
 
 pub returns-in_err-park : goal.returns-in_err-park

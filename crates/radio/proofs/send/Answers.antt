@@ -1,7 +1,6 @@
-use Rattle.std.proofs.Common.{sym, subst}
 use Rattle.node.specs.Node.{store_means, IsOut}
 use Rattle.node.proofs.Parking.{out_parks}
-use Rattle.radio.proofs.Reaching.{called}
+use Rattle.node.proofs.Reaching.{called}
 use Rattle.radio.proofs.send.Goals as goal
 
 pub returns-in-Ok-clause-run : goal.returns-in-Ok-clause-run
@@ -18,6 +17,5 @@ pub returns-in_err-park-in-Err-clause-kept : goal.returns-in_err-park-in-Err-cla
 returns-in_err-park-in-Err-clause-kept g c =
     let m = store_means g.S.Store c.settle.new.self in
     let same = c.in-Err.ensures.same in
-    let out : IsOut c.in-Err.slip c.settle.new.self =
-    subst (λ n. IsOut c.in-Err.slip n) (sym same.1) (subst (λ x. IsOut x c.recall.new.self) (sym same.0) c.in_ok-slip.ensures.slip.1) in
+    let out : IsOut c.in-Err.slip c.settle.new.self = rw (same.1, same.0) c.in_ok-slip.ensures.slip.1 in
     absurd (out_parks c.settle.new.self c.in-Err.slip m _ out (c.in_err-park-in-Err.ensures.judged m))

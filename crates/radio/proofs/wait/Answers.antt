@@ -1,4 +1,4 @@
-use Rattle.radio.proofs.Reaching.{called}
+use Rattle.node.proofs.Reaching.{called}
 use Rattle.radio.proofs.wait.Goals as goal
 
 pub returns-in_err-loss : goal.returns-in_err-loss

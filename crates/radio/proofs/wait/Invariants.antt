@@ -1,4 +1,4 @@
-use Rattle.radio.specs.Supply.{Reached}
+use Rattle.node.specs.Runs.{Reached}
 use Rattle.radio.proofs.wait.Given as goal
 
 abbrev pub invariant-loop : goal.invariant-loop

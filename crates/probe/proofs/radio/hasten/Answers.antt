@@ -1,9 +1,9 @@
 use Rattle.std.proofs.Common.{arith}
-use Rattle.probe.proofs.Settling.{not_refused}
+use Rattle.node.specs.Node.{store_means}
+use Rattle.node.proofs.Parking.{out_settles}
 use Rattle.probe.proofs.radio.hasten.Goals as goal
 
--- the slip is out
 pub returns-in_err-lost-in-Ok : goal.returns-in_err-lost-in-Ok
 returns-in_err-lost-in-Ok g c =
-    let slip = c.in-Ok.ensures.slip in
-    absurd (not_refused c.request.new.node c.in-Ok.slip 31 _ slip.1 (omega (arith, slip.0)) c.in_err-lost-in-Ok.ensures.judged)
+    let m = store_means g.S.Store c.request.new.node in
+    absurd (out_settles c.request.new.node c.in-Ok.slip 31 m _ c.in-Ok.ensures.slip.1 (omega (arith, c.in-Ok.ensures.slip.0)) (c.in_err-lost-in-Ok.ensures.judged m))
