@@ -1,5 +1,5 @@
 -- Every answer's line fits into 160 bytes. Assumes nothing.
-use Rattle.std.proofs.Common.{◌≡◌, ◌≤◌, length, refl, arith}
+use Rattle.std.proofs.Common.{◌≡◌, ◌≤◌, length, Ok, Err, Result, refl, arith}
 use Rattle.node.specs.declared.denial.Denial.{Denial}
 use Rattle.node.specs.declared.denial.Denial.TheVariants.{ShortReport, OutOfRange, Absent, AlreadyOpen, NoSuchGrant}
 use Rattle.node.specs.declared.denial.Denial.TheVariants.{NotOwner, SameEnds, AboveLimit, InUse, Overused}
@@ -9,10 +9,10 @@ use Rattle.node.specs.Denial.{values_of as denial_values}
 use Rattle.frame.specs.declared.fault.FrameFault.{FrameFault}
 use Rattle.frame.specs.declared.fault.FrameFault.TheVariants.{ShortAnswer, BadLine, UnknownFrame, OutOfTurn, Denied}
 use Rattle.frame.specs.declared.answer.Answer.{Answer}
-use Rattle.frame.specs.declared.answer.Answer.TheVariants.{Done, Granted, Settled, Ticked, Audited, Refused}
+use Rattle.frame.specs.declared.answer.Answer.TheVariants.{Done, Granted, Settled, Ticked, Audited}
 use Rattle.frame.specs.Digits.{written}
 use Rattle.frame.specs.Fault.{values_of}
-use Rattle.frame.specs.Answer.{be8, total_bytes, answer_bytes_lem}
+use Rattle.frame.specs.Answer.{be8, total_bytes, told_bytes, reply_bytes}
 use Rattle.frame.proofs.DigitsLaws.{length_written}
 
 length_totals : (t : Totals) → length (total_bytes t) ≡ 57
@@ -42,13 +42,16 @@ length_fault UnknownFrame = omega arith
 length_fault OutOfTurn = omega arith
 length_fault (Denied d) = length_denial d
 
-length_answer : (a : Answer) → length (answer_bytes_lem a) ≤ 57
-length_answer Done = omega arith
-length_answer (Granted serial) = omega arith
-length_answer (Settled lost) = omega arith
-length_answer (Ticked loss intake) = omega arith
-length_answer (Audited t) = let e = length_totals t in omega arith
-length_answer (Refused f) = let e = length_fault f in omega arith
+length_told : (a : Answer) → length (told_bytes a) ≤ 57
+length_told Done = omega arith
+length_told (Granted serial) = omega arith
+length_told (Settled lost) = omega arith
+length_told (Ticked loss intake) = omega arith
+length_told (Audited t) = let e = length_totals t in omega arith
 
-pub fits : (a : Answer) → length (written (answer_bytes_lem a)) ≤ 160
-fits a = let e = length_written (answer_bytes_lem a) in let l = length_answer a in omega arith
+length_reply : (r : Result Answer FrameFault) → length (reply_bytes r) ≤ 57
+length_reply (Ok a) = length_told a
+length_reply (Err f) = let e = length_fault f in omega arith
+
+pub fits : (r : Result Answer FrameFault) → length (written (reply_bytes r)) ≤ 160
+fits r = let e = length_written (reply_bytes r) in let l = length_reply r in omega arith

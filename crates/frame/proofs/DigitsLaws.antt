@@ -5,7 +5,7 @@ use Rattle.std.proofs.lemmas.List.{drop_more, take_more, length-take-le, take_al
 use Rattle.std.proofs.lemmas.Bool.Decides.{nat_tests, leb_tells}
 use Rattle.frame.specs.declared.fault.FrameFault.{FrameFault}
 use Rattle.frame.specs.declared.fault.FrameFault.TheVariants.{BadLine}
-use Rattle.frame.specs.Line.{cut}
+use Rattle.frame.specs.Prefix.{cut}
 use Rattle.frame.specs.Digits.{digit_of, digits_of, with_byte, written, over_front, value_of, joined, bytes_of, line_of}
 
 -- bytes in front of those still to be read

@@ -1,3 +1,3 @@
-pub mod LineLaws
+pub mod PrefixLaws
 pub mod DigitsLaws
 pub mod AnswerLaws

@@ -1,6 +1,5 @@
 pub mod Fault
-pub mod Line
-pub mod Bytes
+pub mod Prefix
 pub mod Digits
 pub mod Frame
 pub mod Answer

@@ -1,11 +1,10 @@
 // Hexadecimal digits, upper case, two for each byte: a line to its bytes, and bytes to their line.
 ghost use Rattle.std.specs.Prelude.{◌≡◌, ℕ, ◌+◌, ◌*◌, ◌<◌, ◌≤◌, List, length};
-ghost use Rattle.frame.specs.Bytes.{contents};
 ghost use Rattle.frame.specs.Digits.{value_of, bytes_of, line_of, digit_of, with_byte, written, over_front};
-ghost use Rattle.frame.specs.Line.{cut};
+ghost use Rattle.frame.specs.Prefix.{contents, cut};
 
-use crate::bytes::Bytes;
 use crate::fault::FrameFault;
+use crate::prefix::Bytes;
 
 const MOST_DIGITS: usize = 80;
 

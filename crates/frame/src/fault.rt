@@ -1,22 +1,29 @@
 // Why a line is refused.
 ghost use Rattle.std.specs.Prelude.{◌≡◌};
+ghost use Rattle.node.specs.declared.denial.Denial.TheVariants.{OutOfRange as Outside};
 ghost use Rattle.frame.specs.Fault.{number_of};
 ghost use Rattle.frame.specs.declared.fault.FrameFault.TheVariants.{Denied};
 
 use node::Denial;
-use std::fmt;
+use rates::OutOfRange;
+use thiserror::Error;
 
-#[derive(Clone, Copy, PartialEq, Eq, Debug)]
+#[derive(Clone, Copy, PartialEq, Eq, Debug, Error)]
 pub enum FrameFault {
     // The answer array has under 160 bytes.
+    #[error("the answer array has fewer than 160 bytes")]
     ShortAnswer,
     // The line is empty, over 80 digits, odd in length or has another character.
+    #[error("the line is not 2 to 80 digits 0-9 and A-F, two for each byte")]
     BadLine,
     // The first byte names no frame, or the length is not that frame's.
+    #[error("no frame has this first byte and this length")]
     UnknownFrame,
     // A frame that builds a node comes when one stands, or another frame comes before.
+    #[error("a node is built once, before every other frame")]
     OutOfTurn,
     // The node refuses the call.
+    #[error(transparent)]
     Denied(Denial),
 }
 
@@ -25,6 +32,14 @@ impl From<Denial> for FrameFault {
 
     fn from(denial: Denial) -> FrameFault {
         Self::Denied(denial)
+    }
+}
+
+impl From<OutOfRange> for FrameFault {
+    ghost from_gives = { λ _ f. f ≡ Denied Outside };
+
+    fn from(_out: OutOfRange) -> FrameFault {
+        Self::Denied(Denial::OutOfRange)
     }
 }
 
@@ -39,20 +54,6 @@ impl FrameFault {
             FrameFault::UnknownFrame => 3,
             FrameFault::OutOfTurn => 4,
             FrameFault::Denied(denial) => denial.number(),
-        }
-    }
-}
-
-impl fmt::Display for FrameFault {
-    fn fmt<W: fmt::Write>(&self, f: &mut fmt::Formatter<W>) -> fmt::Result {
-        match self {
-            FrameFault::ShortAnswer => f.write_str("the answer array has fewer than 160 bytes"),
-            FrameFault::BadLine => f.write_str(
-                "the line is not 2 to 80 digits 0-9 and A-F, two for each byte",
-            ),
-            FrameFault::UnknownFrame => f.write_str("no frame has this first byte and this length"),
-            FrameFault::OutOfTurn => f.write_str("a node is built once, before every other frame"),
-            FrameFault::Denied(denial) => write!(f, "{denial}"),
         }
     }
 }

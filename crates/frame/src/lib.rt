@@ -2,15 +2,13 @@
 #![tactic(auto)]
 
 mod answer;
-mod bytes;
 mod digits;
 mod fault;
 mod frame;
-mod line;
+mod prefix;
 
-pub use answer::{Answer, write_answer};
-pub use bytes::Bytes;
+pub use answer::{Answer, ROOM, write_answer};
 pub use digits::decode;
 pub use fault::FrameFault;
 pub use frame::Frame;
-pub use line::Line;
+pub use prefix::{Bytes, Line, Prefix};

@@ -1,5 +1,5 @@
 -- A node that is reached stays reached, whatever line is answered; and a node that is reached is sound.
-use Rattle.std.proofs.Common.{◌≡◌, ℕ, List, [], IfErr, Ok, Err, Result, sym, ap, ◌∙◌, subst}
+use Rattle.std.proofs.Common.{◌≡◌, ℕ, List, [], IfErr, Ok, Err, Result, sym, ap, subst}
 use Rattle.store.specs.declared.store.Store.{Ghosts}
 use Rattle.rates.specs.declared.amount.OutOfRange.{OutOfRange as Outside}
 use Rattle.node.specs.declared.node.Node.{Node}
@@ -13,9 +13,9 @@ use Rattle.frame.specs.declared.fault.FrameFault.{FrameFault}
 use Rattle.frame.specs.declared.answer.Answer.{Answer}
 use Rattle.simulator.specs.declared.simulator.Simulator.{Simulator}
 use Rattle.simulator.specs.declared.simulator.Simulator.TheVariants.{Empty, Single, Layered, Cells}
-use Rattle.store.specs.Capacitor.{capacitor_store}
-use Rattle.store.specs.Bank.{bank_store}
-use Rattle.simulator.specs.Simulator.{ReachedOn, Reached, Built, Builds, Stands, ServesOn, ServesIn, Serves, Replied, Replies, frame_in, ranged, layered_store, single_of, layered_of, cells_of, Parks, SettledWith, Ends, SameIfRefused}
+use Rattle.store.specs.Capacitor.{new_capacitor, capacitor_store}
+use Rattle.store.specs.Bank.{new_bank, bank_store}
+use Rattle.simulator.specs.Simulator.{ReachedOn, Reached, Built, Builds, Stands, ServesOn, ServesIn, Serves, Replied, Replies, frame_in, layered_store, layered_of, Parks, SettledWith, Ends, SameIfRefused}
 
 module _ {S : Type 0} (G : Ghosts S) where
   pub on : (n m : Node S) (e : Event) → Extends G n e m → ReachedOn G n → ReachedOn G m
@@ -61,19 +61,18 @@ module _ {S : Type 0} (G : Ghosts S) where
     serving_in n f r s' p at = subst Reached (sym p.1) (is p.0 (serving n p.0 f r p.2 at))
 
     building : (x : Result S Outside) (made : Result Simulator FrameFault) (r : Result Answer FrameFault) (s' : Simulator) → Builds G put x made → Stands made r s' → Reached s'
-    building (Ok x) made r s' (m, (n, made-is, ok, born), is_made) stands =
-        let at = subst (λ z. Stands z r s') (is_made ∙ ap ranged made-is) stands in
+    building (Ok x) made r s' (n, made-is, ok, born) stands =
+        let at = subst (λ z. Stands z r s') made-is stands in
         subst Reached (sym at.1) (is n (x, [], new ok born))
-    building (Err e) made r s' (m, made-is, is_made) stands =
-        subst Reached (sym (subst (λ z. Stands z r s') (is_made ∙ ap ranged made-is) stands).1) tt
+    building (Err e) made r s' is stands = subst Reached (sym (subst (λ z. Stands z r s') is stands).1) tt
 
 nothing : (made : Result Simulator FrameFault) (f : FrameFault) (r : Result Answer FrameFault) (s' : Simulator) → made ≡ Err f → Stands made r s' → Reached s'
 nothing made f r s' is stands = subst Reached (sym (subst (λ z. Stands z r s') is stands).1) tt
 
 first : (f : Frame) (made : Result Simulator FrameFault) (r : Result Answer FrameFault) (s' : Simulator) → Built f made → Stands made r s' → Reached s'
-first (CapacitorFrame c) made r s' b stands = building capacitor_store Single (λ n x. x) (single_of c) made r s' b stands
+first (CapacitorFrame c) made r s' b stands = building capacitor_store Single (λ n x. x) (new_capacitor c) made r s' b stands
 first (LayeredFrame c f p) made r s' b stands = building layered_store Layered (λ n x. x) (layered_of c f p) made r s' b stands
-first (BankFrame cs) made r s' b stands = building bank_store Cells (λ n x. x) (cells_of cs) made r s' b stands
+first (BankFrame cs) made r s' b stands = building bank_store Cells (λ n x. x) (new_bank cs) made r s' b stands
 first (Open t a i o l q) made r s' b stands = nothing made _ r s' b stands
 first (Close t i) made r s' b stands = nothing made _ r s' b stands
 first (Tap t k a c q d) made r s' b stands = nothing made _ r s' b stands

@@ -1,11 +1,11 @@
 -- What a line is answered, which calls it stands for, and what stands after it. Assumes nothing.
---     single_of, layered_of, cells_of      the store that each building frame makes, or its refusal
+--     layered_of c f p           the capacitor under a floor under leakage that these numbers make, or its refusal
 --     Reached s                  the node that stands, if one does, is reached by a run of calls from a new node over a sound store
 --     done x, told x             the answer to a call that tells nothing, and to a tick
 --     Grants G n t i q r m       a grant and, where it is accepted, the parking of its slip
 --     Settles G n t s u r m      a recall, where it is accepted a settlement, and where that is refused a parking
 --     ServesOn G n f r m         what the frame f is answered by the node n, and that m is where its calls lead
---     Made G put x r             r is a new node over the store x, where x could be built
+--     Builds G put x r           r is a new node over the store x, where x could be built, or its refusal
 --     Built f r                  what the frame f builds, where no node stands
 --     Stands made r s'           what a frame is answered where no node stood, and what stands after it
 --     Serves s f r s'            what the frame f is answered, and what stands after it
@@ -16,7 +16,6 @@ use Rattle.std.specs.Prelude.{◌≡◌, ℕ, ◌<◌, ◌≤◌, List, length, 
 use Rattle.rates.specs.declared.amount.OutOfRange.{OutOfRange as Outside}
 use Rattle.store.specs.declared.store.Store.{Ghosts}
 use Rattle.store.specs.declared.capacitor.Capacitor.{Capacitor}
-use Rattle.store.specs.declared.bank.Bank.{Bank}
 use Rattle.store.specs.Capacitor.{new_capacitor, capacitor_store}
 use Rattle.store.specs.Bank.{new_bank, bank_store}
 use Rattle.layers.specs.declared.floor.Floor.{Floor}
@@ -36,7 +35,7 @@ use Rattle.frame.specs.declared.frame.Frame.TheVariants.{Capacitor as CapacitorF
 use Rattle.frame.specs.declared.fault.FrameFault.{FrameFault}
 use Rattle.frame.specs.declared.fault.FrameFault.TheVariants.{ShortAnswer, OutOfTurn, Denied}
 use Rattle.frame.specs.declared.answer.Answer.{Answer}
-use Rattle.frame.specs.declared.answer.Answer.TheVariants.{Done, Granted, Settled, Ticked, Audited, Refused}
+use Rattle.frame.specs.declared.answer.Answer.TheVariants.{Done, Granted, Settled, Ticked, Audited}
 use Rattle.frame.specs.Answer.{answered, after_answer}
 use Rattle.frame.specs.Digits.{line_of}
 use Rattle.frame.specs.Frame.{frame_of_lem}
@@ -60,9 +59,6 @@ Reached (Cells n) = ReachedOn bank_store n
 
 -- the frames that build
 
-abbrev pub single_of : ℕ → Result Capacitor Outside
-single_of c = new_capacitor c
-
 abbrev pub without_floor : Result Layers (Outside × Floor Capacitor) → Result Layers Outside
 without_floor (Ok l) = Ok l
 without_floor (Err e) = Err e.0
@@ -70,26 +66,16 @@ without_floor (Err e) = Err e.0
 abbrev pub layered_of : ℕ → ℕ → ℕ → Result Layers Outside
 layered_of c f p = elim (new_capacitor c) [ Ok x ↦ without_floor (new_leakage (record { below = x; amount = f }) p) | Err e ↦ Err e ]
 
-abbrev pub cells_of : List ℕ → Result Bank Outside
-cells_of cs = new_bank cs
-
 -- a store that can be built is sound, and a new node stands over it
-abbrev pub Made : {S : Type 0} → Ghosts S → (Node S → Simulator) → Result S Outside → Result Simulator Outside → Type 0
-Made {S} G put (Ok x) r = (n : Node S) × (r ≡ Ok (put n)) × G.sound x × Newborn G x n
-Made G put (Err e) r = r ≡ Err e
-
-abbrev pub ranged : Result Simulator Outside → Result Simulator FrameFault
-ranged (Ok s) = Ok s
-ranged (Err e) = Err (Denied OutOfRange)
-
 abbrev pub Builds : {S : Type 0} → Ghosts S → (Node S → Simulator) → Result S Outside → Result Simulator FrameFault → Type 0
-Builds G put x r = (made : Result Simulator Outside) × Made G put x made × (r ≡ ranged made)
+Builds {S} G put (Ok x) r = (n : Node S) × (r ≡ Ok (put n)) × G.sound x × Newborn G x n
+Builds G put (Err e) r = r ≡ Err (Denied OutOfRange)
 
 -- what a frame builds; one that builds nothing is out of turn before a node stands
 abbrev pub Built : Frame → Result Simulator FrameFault → Type 0
-Built (CapacitorFrame c) r = Builds capacitor_store Single (single_of c) r
+Built (CapacitorFrame c) r = Builds capacitor_store Single (new_capacitor c) r
 Built (LayeredFrame c f p) r = Builds layered_store Layered (layered_of c f p) r
-Built (BankFrame cs) r = Builds bank_store Cells (cells_of cs) r
+Built (BankFrame cs) r = Builds bank_store Cells (new_bank cs) r
 Built (Open t p i o l q) r = r ≡ Err OutOfTurn
 Built (Close t i) r = r ≡ Err OutOfTurn
 Built (Tap t k a b p d) r = r ≡ Err OutOfTurn
@@ -170,10 +156,6 @@ Replied s (Err f) r s' = (r ≡ Err f) × (s' ≡ s)
 abbrev pub Replies : Simulator → List ℕ → Result Answer FrameFault → Simulator → Type 0
 Replies s line r s' = Replied s (frame_in line) r s'
 
-abbrev pub answer_of : Result Answer FrameFault → Answer
-answer_of (Ok a) = a
-answer_of (Err f) = Refused f
-
 abbrev pub SameIfRefused : Result Answer FrameFault → Simulator → Simulator → Type 0
 SameIfRefused (Ok a) s s' = Unit {0}
 SameIfRefused (Err f) s s' = s' ≡ s
@@ -181,4 +163,4 @@ SameIfRefused (Err f) s s' = s' ≡ s
 -- an array that is too short is told before the line is looked at; a line that is refused leaves what stood
 pub record Answers (s : Simulator) (line out : List ℕ) (r : Result ℕ FrameFault) (s' : Simulator) (out' : List ℕ) : Type 0 where
   pub short : length out < 160 → (r ≡ Err ShortAnswer) × (s' ≡ s) × (out' ≡ out)
-  pub long : 160 ≤ length out → (a : Result Answer FrameFault) × Replies s line a s' × (r ≡ answered (answer_of a) out) × (out' ≡ after_answer (answer_of a) out) × (Reached s → SameIfRefused a s s')
+  pub long : 160 ≤ length out → (a : Result Answer FrameFault) × Replies s line a s' × (r ≡ answered a out) × (out' ≡ after_answer a out) × (Reached s → SameIfRefused a s s')

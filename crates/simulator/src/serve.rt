@@ -1,31 +1,13 @@
 // What a node answers to a frame: the calls that the frame stands for, in order.
 ghost use Rattle.std.specs.Prelude.{◌≡◌, OnErr};
 ghost use Rattle.node.specs.Node.{SoundNode};
-ghost use Rattle.simulator.specs.Simulator.{done as done_of, told as told_of, Grants, Settles, ServesOn};
+ghost use Rattle.simulator.specs.Simulator.{Grants, Settles, ServesOn};
 
 use frame::{Answer, Frame, FrameFault};
-use node::{Denial, Node};
+use node::Node;
 use store::Store;
 
 const TAPS: usize = 96;
-
-fn done(res: Result<(), Denial>) -> Result<Answer, FrameFault>
-    ensures result { result ≡ done_of res }
-{
-    match res {
-        Ok(()) => Ok(Answer::Done),
-        Err(denial) => Err(FrameFault::from(denial)),
-    }
-}
-
-fn told(res: Result<(u32, u32), Denial>) -> Result<Answer, FrameFault>
-    ensures result { result ≡ told_of res }
-{
-    match res {
-        Ok((loss, intake)) => Ok(Answer::Ticked { loss, intake }),
-        Err(denial) => Err(FrameFault::from(denial)),
-    }
-}
 
 // A grant whose slip is parked: a slip that was just given is out, so its parking is not refused.
 fn grant<S: Store>(
@@ -37,13 +19,10 @@ fn grant<S: Store>(
     ensures calls { Grants (S.Store) node.old task reserve amount result node.new }
     ensures same { OnErr result (node.new ≡ node.old) }
 {
-    let slip = match node.grant(task, reserve, amount) {
-        Ok(slip) => slip,
-        Err(denial) => return Err(FrameFault::from(denial)),
-    };
+    let slip = node.grant(task, reserve, amount)?;
     match node.park(slip) {
         Ok(serial) => Ok(Answer::Granted { serial }),
-        Err((_, _slip)) => unreachable(),
+        Err((_, _slip)) => unreachable!(),
     }
 }
 
@@ -57,15 +36,12 @@ fn settle<S: Store>(
     ensures calls { Settles (S.Store) node.old task serial used result node.new }
     ensures same { SoundNode (S.Store) node.old → OnErr result (node.new ≡ node.old) }
 {
-    let slip = match node.recall(task, serial) {
-        Ok(slip) => slip,
-        Err(denial) => return Err(FrameFault::from(denial)),
-    };
+    let slip = node.recall(task, serial)?;
     match node.settle(slip, used) {
         Ok(lost) => Ok(Answer::Settled { lost }),
         Err((denial, slip)) => match node.park(slip) {
             Ok(_) => Err(FrameFault::from(denial)),
-            Err((_, _slip)) => unreachable(),
+            Err((_, _slip)) => unreachable!(),
         },
     }
 }
@@ -82,8 +58,14 @@ pub(crate) fn serve<S: Store>(node: &mut Node<S>, frame: Frame) -> Result<Answer
             owner,
             limit,
             amount,
-        } => done(node.open(task, parent, number, owner, limit, amount)),
-        Frame::Close { task, number } => done(node.close(task, number)),
+        } => {
+            node.open(task, parent, number, owner, limit, amount)?;
+            Ok(Answer::Done)
+        }
+        Frame::Close { task, number } => {
+            node.close(task, number)?;
+            Ok(Answer::Done)
+        }
         Frame::Tap {
             task,
             tap,
@@ -91,8 +73,14 @@ pub(crate) fn serve<S: Store>(node: &mut Node<S>, frame: Frame) -> Result<Answer
             sink,
             n,
             d,
-        } => done(node.tap(task, tap, source, sink, n, u32::from(d))),
-        Frame::Shut { task, tap } => done(node.shut(task, tap)),
+        } => {
+            node.tap(task, tap, source, sink, n, u32::from(d))?;
+            Ok(Answer::Done)
+        }
+        Frame::Shut { task, tap } => {
+            node.shut(task, tap)?;
+            Ok(Answer::Done)
+        }
         Frame::Grant {
             task,
             reserve,
@@ -101,7 +89,8 @@ pub(crate) fn serve<S: Store>(node: &mut Node<S>, frame: Frame) -> Result<Answer
         Frame::Settle { task, serial, used } => settle(node, task, serial, used),
         Frame::Tick { harvest } => {
             let mut report = [0; TAPS];
-            told(node.tick(harvest, &mut report))
+            let (loss, intake) = node.tick(harvest, &mut report)?;
+            Ok(Answer::Ticked { loss, intake })
         }
         Frame::Audit => Ok(Answer::Audited(node.audit())),
         Frame::Capacitor { .. } | Frame::Layered { .. } | Frame::Bank { .. } => Err(

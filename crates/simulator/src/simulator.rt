@@ -1,18 +1,14 @@
 // What stands between the lines of a script: no node yet, or one over a store that a frame built.
 ghost use Rattle.std.specs.Prelude.{◌≡◌, ◌≤◌, IfOk};
-ghost use Rattle.store.specs.Capacitor.{capacitor_store};
-ghost use Rattle.store.specs.Bank.{bank_store};
-ghost use Rattle.simulator.specs.Simulator.{Reached, single_of, layered_of, cells_of, layered_store, Made, ranged as ranged_of, Built, Serves, Replies, Answers, SameIfRefused};
-ghost use Rattle.simulator.specs.declared.simulator.Simulator.TheVariants.{Empty as Nothing, Single as SingleNode, Layered as LayeredNode, Cells as CellsNode};
+ghost use Rattle.simulator.specs.Simulator.{Reached, layered_of, layered_store, Built, Serves, Replies, Answers, SameIfRefused};
+ghost use Rattle.simulator.specs.declared.simulator.Simulator.TheVariants.{Empty as Nothing};
 
 use crate::serve::serve;
-use frame::{Answer, Frame, FrameFault, decode, write_answer};
+use frame::{Answer, Frame, FrameFault, ROOM, decode, write_answer};
 use layers::{Floor, Leakage};
-use node::{Denial, Node};
+use node::Node;
 use rates::OutOfRange;
 use store::{Bank, Capacitor};
-
-const ROOM: usize = 160;
 
 #[derive(Drop)]
 pub enum Simulator {
@@ -24,14 +20,7 @@ pub enum Simulator {
     Cells(Node<Bank>),
 }
 
-// A node over one capacitor.
-fn single(capacity: u32) -> Result<Simulator, OutOfRange>
-    ensures made { Made capacitor_store SingleNode (single_of capacity) result }
-{
-    let capacitor = Capacitor::new(capacity)?;
-    Ok(Simulator::Single(Node::new(capacitor)))
-}
-
+// A capacitor under a floor under leakage.
 fn layers(capacity: u32, floor: u32, part: u16) -> Result<Leakage<Floor<Capacitor>>, OutOfRange>
     ensures result { result ≡ layered_of capacity floor part }
     ensures sound { IfOk result layered_store.sound }
@@ -43,43 +32,27 @@ fn layers(capacity: u32, floor: u32, part: u16) -> Result<Leakage<Floor<Capacito
     }
 }
 
-// A node over a capacitor under a floor under leakage.
-fn layered(capacity: u32, floor: u32, part: u16) -> Result<Simulator, OutOfRange>
-    ensures made { Made layered_store LayeredNode (layered_of capacity floor part) result }
-{
-    let leakage = layers(capacity, floor, part)?;
-    Ok(Simulator::Layered(Node::new(leakage)))
-}
-
-// A node over a bank of cells.
-fn cells(capacities: &[u32]) -> Result<Simulator, OutOfRange>
-    ensures made { Made bank_store CellsNode (cells_of capacities.now) result }
-{
-    let bank = Bank::new(capacities)?;
-    Ok(Simulator::Cells(Node::new(bank)))
-}
-
-fn ranged(made: Result<Simulator, OutOfRange>) -> Result<Simulator, FrameFault>
-    ensures result { result ≡ ranged_of made }
-{
-    match made {
-        Ok(simulator) => Ok(simulator),
-        Err(_) => Err(FrameFault::Denied(Denial::OutOfRange)),
-    }
-}
-
 // What a frame builds where no node stands.
 fn build(frame: Frame) -> Result<Simulator, FrameFault>
     ensures built { Built frame result }
 {
     match frame {
-        Frame::Capacitor { capacity } => ranged(single(capacity)),
+        Frame::Capacitor { capacity } => {
+            let capacitor = Capacitor::new(capacity)?;
+            Ok(Simulator::Single(Node::new(capacitor)))
+        }
         Frame::Layered {
             capacity,
             floor,
             part,
-        } => ranged(layered(capacity, floor, part)),
-        Frame::Bank { capacities } => ranged(cells(&capacities)),
+        } => {
+            let leakage = layers(capacity, floor, part)?;
+            Ok(Simulator::Layered(Node::new(leakage)))
+        }
+        Frame::Bank { capacities } => {
+            let bank = Bank::new(&capacities)?;
+            Ok(Simulator::Cells(Node::new(bank)))
+        }
         _ => Err(FrameFault::OutOfTurn),
     }
 }
@@ -128,10 +101,6 @@ impl Simulator {
         if out.len() < ROOM {
             return Err(FrameFault::ShortAnswer);
         }
-        let answer = match self.reply(line) {
-            Ok(answer) => answer,
-            Err(fault) => Answer::Refused(fault),
-        };
-        write_answer(&answer, out)
+        write_answer(self.reply(line), out)
     }
 }

@@ -1,5 +1,5 @@
 use Rattle.std.proofs.Common.{rules}
-use Rattle.frame.specs.Bytes.{contents}
+use Rattle.frame.specs.Prefix.{contents}
 use Rattle.frame.proofs.DigitsLaws.{line_from_cut}
 use Rattle.frame.proofs.digits.decode.Goals as goal
 
