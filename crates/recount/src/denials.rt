@@ -1,12 +1,12 @@
 // The denials under 16 and 17.
-ghost use Rattle.std.specs.Prelude.{◌≡◌, [], IfOk};
+ghost use Rattle.std.specs.Prelude.{◌≡◌, [], IfOk, Result};
 ghost use Rattle.recount.specs.Recount.{Denies, lack_of, row_in, rows_of};
 ghost use Rattle.recount.specs.Noting.{Keyed, all_after, level_after, store_after};
 
-use crate::lack::Lack;
+use crate::lack::{Lack, Shortage};
 use crate::row::Row;
 use crate::table::Table;
-use frame::Answer;
+use frame::{Answer, FrameFault};
 use std::alloc::{AllocError, Global};
 
 #[derive(Drop)]
@@ -32,34 +32,23 @@ impl Denials {
         })
     }
 
-    pub(crate) fn note(&mut self, answer: &Answer)
-        ensures within { Keyed (lack_of answer.now) }
-        ensures all { self.new.all ≡ all_after (lack_of answer.now) self.old.all }
-        ensures level { rows_of self.new.level ≡ level_after (lack_of answer.now) (rows_of self.old.level) }
-        ensures store { rows_of self.new.store ≡ store_after (lack_of answer.now) (rows_of self.old.store) }
+    pub(crate) fn note(&mut self, reply: &Result<Answer, FrameFault>)
+        ensures within { Keyed (lack_of reply.now) }
+        ensures all { self.new.all ≡ all_after (lack_of reply.now) self.old.all }
+        ensures level { rows_of self.new.level ≡ level_after (lack_of reply.now) (rows_of self.old.level) }
+        ensures store { rows_of self.new.store ≡ store_after (lack_of reply.now) (rows_of self.old.store) }
     {
-        match Lack::of(answer) {
-            Lack::Nothing => {}
-            Lack::Level {
-                task,
-                reserve,
-                deficit,
-            } => {
-                self.all = self.all.add(deficit);
-                self.level.add(task, reserve, deficit);
-            }
-            Lack::Store {
-                task,
-                reserve,
-                deficit,
-            } => {
-                self.all = self.all.add(deficit);
-                self.store.add(task, reserve, deficit);
+        if let Some(lack) = Lack::of(reply) {
+            self.all = self.all.add(lack.deficit);
+            match lack.shortage {
+                Shortage::Level => self.level.add(lack),
+                Shortage::Store => self.store.add(lack),
             }
         }
     }
 
-    // The row of a task and a reserve; under another number than 16 and 17 it has nothing.
+    // The row of a task and a reserve; under another number than 16 and 17 it has nothing. Any number may be asked for,
+    // so it is a number and no Shortage.
     pub(crate) fn row(&self, number: u8, task: u8, reserve: u8) -> Row
         ensures result { result ≡ row_in self.now number task reserve }
     {

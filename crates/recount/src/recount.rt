@@ -1,12 +1,11 @@
 // The recount of a script's answers. Its counts stay at the largest number once there.
 ghost use Rattle.std.specs.Prelude.{◌≡◌, List, [], ◌∷◌, ◌++◌, length, IfOk};
-ghost use Rattle.frame.specs.declared.answer.Answer.{Answer as AnAnswer};
-ghost use Rattle.recount.specs.Recount.{Counts, capped, how_many, accepted as is_accepted, refused_with, denied as is_denied, denied_to, row_of};
+ghost use Rattle.recount.specs.Recount.{Reply, Counts, capped, how_many, accepted as is_accepted, refused_with, denied as is_denied, denied_to, row_of};
 
 use crate::denials::Denials;
 use crate::row::Row;
 use crate::verdicts::Verdicts;
-use frame::Answer;
+use frame::{Answer, FrameFault};
 use std::alloc::{AllocError, Global};
 
 #[derive(Drop)]
@@ -28,55 +27,58 @@ impl Recount {
     }
 
     // The recount of all these answers.
-    pub fn of(heap: Global, answers: &[Answer]) -> Result<Recount, AllocError>
-        ensures counts { IfOk result (Counts answers.now) }
+    pub fn of(
+        heap: Global,
+        replies: &[Result<Answer, FrameFault>],
+    ) -> Result<Recount, AllocError>
+        ensures counts { IfOk result (Counts replies.now) }
     {
         let mut recount = Recount::new(heap)?;
-        for answer in answers {
-            recount.note(answer);
+        for reply in replies {
+            recount.note(reply);
         }
         Ok(recount)
     }
 
     // Counts one answer more.
-    pub fn note(&mut self, answer: &Answer)
-        ensures counts { (xs : List AnAnswer) → Counts xs self.old → Counts (xs ++ answer.now ∷ []) self.new }
+    pub fn note(&mut self, reply: &Result<Answer, FrameFault>)
+        ensures counts { (xs : List Reply) → Counts xs self.old → Counts (xs ++ reply.now ∷ []) self.new }
     {
-        self.verdicts.note(answer);
-        self.denials.note(answer);
+        self.verdicts.note(reply);
+        self.denials.note(reply);
     }
 
     // How many lines were answered.
     pub fn lines(&self) -> u64
-        ensures result { (xs : List AnAnswer) → Counts xs self.now → result ≡ capped (length xs) }
+        ensures result { (xs : List Reply) → Counts xs self.now → result ≡ capped (length xs) }
     {
         self.verdicts.lines
     }
 
     // How many of them were accepted.
     pub fn accepted(&self) -> u64
-        ensures result { (xs : List AnAnswer) → Counts xs self.now → result ≡ capped (how_many is_accepted xs) }
+        ensures result { (xs : List Reply) → Counts xs self.now → result ≡ capped (how_many is_accepted xs) }
     {
         self.verdicts.accepted
     }
 
     // How many were refused with this number.
     pub fn refused(&self, number: u8) -> u64
-        ensures result { (xs : List AnAnswer) → Counts xs self.now → result ≡ capped (how_many (refused_with number) xs) }
+        ensures result { (xs : List Reply) → Counts xs self.now → result ≡ capped (how_many (refused_with number) xs) }
     {
         self.verdicts.refused_with(number)
     }
 
     // The denials under 16 and 17 in all.
     pub fn denials(&self) -> Row
-        ensures result { (xs : List AnAnswer) → Counts xs self.now → result ≡ row_of is_denied xs }
+        ensures result { (xs : List Reply) → Counts xs self.now → result ≡ row_of is_denied xs }
     {
         self.denials.all
     }
 
     // The denials under 16 or 17 of a task at a reserve.
     pub fn denied(&self, number: u8, task: u8, reserve: u8) -> Row
-        ensures result { (xs : List AnAnswer) → Counts xs self.now → result ≡ row_of (denied_to number task reserve) xs }
+        ensures result { (xs : List Reply) → Counts xs self.now → result ≡ row_of (denied_to number task reserve) xs }
     {
         self.denials.row(number, task, reserve)
     }

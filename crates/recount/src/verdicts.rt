@@ -1,9 +1,9 @@
 // How many lines were accepted, and how many refused with each number.
-ghost use Rattle.std.specs.Prelude.{◌≡◌, ◌+◌, [], length, slice_index};
+ghost use Rattle.std.specs.Prelude.{◌≡◌, ◌+◌, [], length, slice_index, Result};
 ghost use Rattle.recount.specs.Recount.{Judges, capped};
 ghost use Rattle.recount.specs.Noting.{accepted_after, refused_after};
 
-use frame::Answer;
+use frame::{Answer, FrameFault};
 
 // The refusal numbers end below this.
 const REFUSALS: usize = 18;
@@ -27,19 +27,19 @@ impl Verdicts {
         }
     }
 
-    pub(crate) fn note(&mut self, answer: &Answer)
+    pub(crate) fn note(&mut self, reply: &Result<Answer, FrameFault>)
         ensures within { length self.old.refused ≡ 18 }
         ensures lines { self.new.lines ≡ capped (self.old.lines + 1) }
-        ensures accepted { self.new.accepted ≡ accepted_after answer.now self.old.accepted }
-        ensures refused { self.new.refused ≡ refused_after answer.now self.old.refused }
+        ensures accepted { self.new.accepted ≡ accepted_after reply.now self.old.accepted }
+        ensures refused { self.new.refused ≡ refused_after reply.now self.old.refused }
     {
         self.lines = self.lines.saturating_add(1);
-        match answer {
-            Answer::Refused(fault) => {
-                let number = usize::from(fault.number());
-                self.refused[number] = self.refused[number].saturating_add(1);
+        match reply {
+            Ok(_) => self.accepted = self.accepted.saturating_add(1),
+            Err(fault) => {
+                let times = &mut self.refused[usize::from(fault.number())];
+                *times = times.saturating_add(1);
             }
-            _ => self.accepted = self.accepted.saturating_add(1),
         }
     }
 
@@ -47,11 +47,6 @@ impl Verdicts {
     pub(crate) fn refused_with(&self, number: u8) -> u64
         ensures result { result ≡ slice_index self.now.refused number }
     {
-        let place = usize::from(number);
-        if place < REFUSALS {
-            self.refused[place]
-        } else {
-            0
-        }
+        self.refused.get(usize::from(number)).copied().unwrap_or(0)
     }
 }

@@ -4,6 +4,7 @@ ghost use Rattle.recount.specs.Recount.{none, place as place_of, rows_of, row_at
 ghost use Rattle.recount.specs.Noting.{noted};
 
 use super::Table;
+use crate::lack::Lack;
 use crate::row::Row;
 use std::alloc::{AllocError, Global};
 
@@ -25,11 +26,11 @@ impl Table {
         Ok(Table { rows })
     }
 
-    pub(crate) fn add(&mut self, task: u8, reserve: u8, deficit: u32)
-        ensures after { rows_of self.new ≡ noted (rows_of self.old) task reserve deficit }
+    pub(crate) fn add(&mut self, lack: Lack)
+        ensures after { rows_of self.new ≡ noted (rows_of self.old) lack }
     {
-        let place = place(task, reserve);
-        self.rows[place] = self.rows[place].add(deficit);
+        let place = place(lack.task, lack.reserve);
+        self.rows[place] = self.rows[place].add(lack.deficit);
     }
 
     pub(crate) fn row(&self, task: u8, reserve: u8) -> Row

@@ -2,5 +2,5 @@ use Rattle.std.proofs.Common.{take}
 use Rattle.recount.specs.Recount.{Counts}
 use Rattle.recount.proofs.recount.Recount.of.Given as goal
 
-abbrev pub invariant-loop-answer : goal.invariant-loop-answer
-invariant-loop-answer l = Counts (take l.answer-index l.answers) l.recount
+abbrev pub invariant-loop-reply : goal.invariant-loop-reply
+invariant-loop-reply l = Counts (take l.reply-index l.replies) l.recount
