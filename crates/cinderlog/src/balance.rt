@@ -20,13 +20,15 @@ pub struct Balance(pub Totals);
 
 impl fmt::Display for Balance {
     fn fmt<W: fmt::Write>(&self, f: &mut fmt::Formatter<W>) -> fmt::Result {
-        let received = self.0.received;
-        let held = self.0.held;
-        let open = self.0.open;
-        let spent = self.0.spent;
-        let lost = self.0.lost;
-        let granted = self.0.granted;
-        let settled = self.0.settled;
+        let Totals {
+            received,
+            held,
+            open,
+            spent,
+            lost,
+            granted,
+            settled,
+        } = self.0;
         let (sign, verdict) = if balances(&self.0) {
             ("=", "balanced")
         } else {

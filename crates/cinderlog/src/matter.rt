@@ -80,31 +80,29 @@ impl fmt::Display for Matter {
     }
 }
 
-// What a frame asks to be done.
-fn deed(frame: Frame) -> &'static str {
+// What a frame asks to be done, and the same once it is done.
+fn deed(frame: Frame) -> (&'static str, &'static str) {
     match frame {
-        Frame::Capacitor { .. } | Frame::Layered { .. } | Frame::Bank { .. } => "build",
-        Frame::Open { .. } | Frame::Tap { .. } => "open",
-        Frame::Close { .. } => "close",
-        Frame::Shut { .. } => "shut",
-        Frame::Grant { .. } => "grant",
-        Frame::Settle { .. } => "settle",
-        Frame::Tick { .. } => "tick with",
-        Frame::Audit => "tell",
+        Frame::Capacitor { .. } | Frame::Layered { .. } | Frame::Bank { .. } => ("build", "built"),
+        Frame::Open { .. } | Frame::Tap { .. } => ("open", "opened"),
+        Frame::Close { .. } => ("close", "closed"),
+        Frame::Shut { .. } => ("shut", "shut"),
+        Frame::Grant { .. } => ("grant", "granted"),
+        Frame::Settle { .. } => ("settle", "settled"),
+        Frame::Tick { .. } => ("tick with", "ticked with"),
+        Frame::Audit => ("tell", "told"),
     }
 }
 
-// The same once it is done.
-pub fn done(frame: Frame) -> &'static str {
-    match frame {
-        Frame::Capacitor { .. } | Frame::Layered { .. } | Frame::Bank { .. } => "built",
-        Frame::Open { .. } | Frame::Tap { .. } => "opened",
-        Frame::Close { .. } => "closed",
-        Frame::Shut { .. } => "shut",
-        Frame::Grant { .. } => "granted",
-        Frame::Settle { .. } => "settled",
-        Frame::Tick { .. } => "ticked with",
-        Frame::Audit => "told",
+// What a frame did, with what it is about.
+#[derive(Clone, Copy)]
+pub struct Done(pub Frame);
+
+impl fmt::Display for Done {
+    fn fmt<W: fmt::Write>(&self, f: &mut fmt::Formatter<W>) -> fmt::Result {
+        let (_, done) = deed(self.0);
+        let matter = Matter(self.0);
+        write!(f, "{done}: {matter}")
     }
 }
 
@@ -127,7 +125,7 @@ pub struct Asked(pub Frame);
 
 impl fmt::Display for Asked {
     fn fmt<W: fmt::Write>(&self, f: &mut fmt::Formatter<W>) -> fmt::Result {
-        let deed = deed(self.0);
+        let (deed, _) = deed(self.0);
         let matter = Matter(self.0);
         match asker(self.0) {
             Some(task) => write!(f, "task {task}, {deed} {matter}"),

@@ -1,6 +1,6 @@
 // What a line was and what came of it, in a sentence.
 use crate::balance::Balance;
-use crate::matter::{Asked, Matter, asker, done};
+use crate::matter::{Asked, Done, Matter, asker};
 use frame::{Answer, Frame, FrameFault};
 use node::Denial;
 use std::fmt;
@@ -49,11 +49,11 @@ impl fmt::Display for Refusal {
     }
 }
 
-// A line that is a frame, and its answer.
+// A line that is a frame, and what it was answered.
 #[derive(Clone, Copy)]
 pub struct Entry {
     pub frame: Frame,
-    pub answer: Answer,
+    pub reply: Result<Answer, FrameFault>,
     // The accepted ticks so far.
     pub ticks: u64,
 }
@@ -62,24 +62,24 @@ impl fmt::Display for Entry {
     fn fmt<W: fmt::Write>(&self, f: &mut fmt::Formatter<W>) -> fmt::Result {
         let matter = Matter(self.frame);
         let ticks = self.ticks;
-        match self.answer {
-            Answer::Done => {
-                let done = done(self.frame);
-                write!(f, "{done}: {matter}")
+        match self.reply {
+            Ok(Answer::Done) => {
+                let done = Done(self.frame);
+                write!(f, "{done}")
             }
-            Answer::Granted { serial } => match asker(self.frame) {
+            Ok(Answer::Granted { serial }) => match asker(self.frame) {
                 Some(task) => write!(f, "grant {serial}: task {task} got {matter}"),
                 None => write!(f, "grant {serial}"),
             },
-            Answer::Settled { lost } => write!(f, "settled: {matter}, lost {lost}"),
-            Answer::Ticked { loss, intake } => {
+            Ok(Answer::Settled { lost }) => write!(f, "settled: {matter}, lost {lost}"),
+            Ok(Answer::Ticked { loss, intake }) => {
                 write!(f, "tick {ticks}: {matter}, taken {intake}, lost {loss}")
             }
-            Answer::Audited(totals) => {
+            Ok(Answer::Audited(totals)) => {
                 let balance = Balance(totals);
                 write!(f, "audit: {balance}")
             }
-            Answer::Refused(fault) => {
+            Err(fault) => {
                 let refusal = Refusal(self.frame, fault);
                 write!(f, "{refusal}")
             }

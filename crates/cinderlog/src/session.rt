@@ -6,7 +6,7 @@ ghost use Rattle.cinderlog.specs.Session.{Logged};
 
 use crate::balance::Balance;
 use crate::sentence::{Entry, NoFrame};
-use crate::table;
+use crate::table::Table;
 use filter::Script;
 use frame::{Answer, Frame, FrameFault, decode};
 use recount::Recount;
@@ -47,16 +47,13 @@ impl Session {
         })
     }
 
-    // Replays a line, and counts its answer.
-    fn answer(&mut self, line: &[u8]) -> Answer
+    // Replays a line, and counts what it is answered.
+    fn reply(&mut self, line: &[u8]) -> Result<Answer, FrameFault>
         ensures logged { Logged self.old line.now self.new }
     {
-        let answer = match self.simulator.reply(line) {
-            Ok(answer) => answer,
-            Err(fault) => Answer::Refused(fault),
-        };
-        self.recount.note(&answer);
-        answer
+        let reply = self.simulator.reply(line);
+        self.recount.note(&reply);
+        reply
     }
 
     // The totals of the node, where one stands.
@@ -75,8 +72,8 @@ impl Script for Session {
     ghost hears = { Logged };
 
     fn line(&mut self, line: &[u8]) -> io::Result<()> {
-        let answer = self.answer(line);
-        if let Answer::Ticked { .. } = answer {
+        let reply = self.reply(line);
+        if let Ok(Answer::Ticked { .. }) = reply {
             self.ticks = self.ticks.saturating_add(1);
         }
         let number = self.recount.lines();
@@ -85,7 +82,7 @@ impl Script for Session {
             Ok(frame) => {
                 let entry = Entry {
                     frame,
-                    answer,
+                    reply,
                     ticks,
                 };
                 writeln!(self.output, "{number}: {entry}")
@@ -98,8 +95,8 @@ impl Script for Session {
     }
 
     fn end(&mut self) -> io::Result<()> {
-        table::tell_lines(&mut self.output, &self.recount)?;
-        table::tell_denials(&mut self.output, &self.recount)?;
+        let table = Table(&self.recount);
+        write!(self.output, "{table}")?;
         self.tell_totals()
     }
 

@@ -1,12 +1,11 @@
 // The table at the end of a script.
 use recount::{Recount, Row};
-use std::io;
-use std::io::{BufWriter, Stdout, Write};
+use std::fmt;
 
 // The refusal numbers end below this.
 const REFUSALS: u8 = 18;
 
-// A word for each refusal.
+// A word for each refusal, by its number, as the recount has them.
 fn word(number: u8) -> &'static str {
     match number {
         1 => "short array",
@@ -30,58 +29,71 @@ fn word(number: u8) -> &'static str {
     }
 }
 
-// How many lines there were, and the refused ones by their number.
-pub fn tell_lines(out: &mut BufWriter<Stdout>, recount: &Recount) -> io::Result<()> {
-    let lines = recount.lines();
-    let accepted = recount.accepted();
-    let refused = lines.saturating_sub(accepted);
-    writeln!(
-        out,
-        "\nlines {lines}, accepted {accepted}, refused {refused}"
-    )?;
-    writeln!(out, "\nrefused       times  why")?;
-    for number in 1..REFUSALS {
-        let times = recount.refused(number);
-        if times > 0 {
-            let why = word(number);
-            writeln!(out, "{number:>7}  {times:>10}  {why}")?;
+// What the lines of a script come to.
+#[derive(Clone, Copy)]
+pub struct Table<'a>(pub &'a Recount);
+
+impl Table<'_> {
+    // How many lines there were, and the refused ones by their number.
+    fn tell_lines<W: fmt::Write>(self, f: &mut fmt::Formatter<W>) -> fmt::Result {
+        let lines = self.0.lines();
+        let accepted = self.0.accepted();
+        let refused = lines.saturating_sub(accepted);
+        write!(
+            f,
+            "\nlines {lines}, accepted {accepted}, refused {refused}\n"
+        )?;
+        f.write_str("\nrefused       times  why\n")?;
+        for number in 1..REFUSALS {
+            let times = self.0.refused(number);
+            if times > 0 {
+                let why = word(number);
+                write!(f, "{number:>7}  {times:>10}  {why}\n")?;
+            }
         }
+        Ok(())
     }
-    Ok(())
-}
 
-// The denials of a task under a number, by reserve.
-fn tell_task(
-    out: &mut BufWriter<Stdout>,
-    recount: &Recount,
-    number: u8,
-    task: u8,
-) -> io::Result<()> {
-    for reserve in 0..=u8::MAX {
-        let Row { times, lacking } = recount.denied(number, task, reserve);
-        if times > 0 {
-            writeln!(
-                out,
-                "{number:>6}  {task:>4}  {reserve:>7}  {times:>10}  {lacking:>10}"
-            )?;
+    // The denials of a task under a number, by reserve.
+    fn tell_task<W: fmt::Write>(
+        self,
+        f: &mut fmt::Formatter<W>,
+        number: u8,
+        task: u8,
+    ) -> fmt::Result {
+        for reserve in 0..=u8::MAX {
+            let Row { times, lacking } = self.0.denied(number, task, reserve);
+            if times > 0 {
+                write!(
+                    f,
+                    "{number:>6}  {task:>4}  {reserve:>7}  {times:>10}  {lacking:>10}\n"
+                )?;
+            }
         }
+        Ok(())
     }
-    Ok(())
+
+    // The denials under a number, by task and reserve.
+    fn tell_number<W: fmt::Write>(self, f: &mut fmt::Formatter<W>, number: u8) -> fmt::Result {
+        for task in 0..=u8::MAX {
+            self.tell_task(f, number, task)?;
+        }
+        Ok(())
+    }
+
+    // The denials under 16 and 17, and their sum.
+    fn tell_denials<W: fmt::Write>(self, f: &mut fmt::Formatter<W>) -> fmt::Result {
+        f.write_str("\ndenied  task  reserve       times     lacking\n")?;
+        self.tell_number(f, 16)?;
+        self.tell_number(f, 17)?;
+        let Row { times, lacking } = self.0.denials();
+        write!(f, "   all                 {times:>10}  {lacking:>10}\n\n")
+    }
 }
 
-// The denials under a number, by task and reserve.
-fn tell_number(out: &mut BufWriter<Stdout>, recount: &Recount, number: u8) -> io::Result<()> {
-    for task in 0..=u8::MAX {
-        tell_task(out, recount, number, task)?;
+impl fmt::Display for Table<'_> {
+    fn fmt<W: fmt::Write>(&self, f: &mut fmt::Formatter<W>) -> fmt::Result {
+        self.tell_lines(f)?;
+        self.tell_denials(f)
     }
-    Ok(())
-}
-
-// The denials under 16 and 17, and their sum.
-pub fn tell_denials(out: &mut BufWriter<Stdout>, recount: &Recount) -> io::Result<()> {
-    writeln!(out, "\ndenied  task  reserve       times     lacking")?;
-    tell_number(out, recount, 16)?;
-    tell_number(out, recount, 17)?;
-    let Row { times, lacking } = recount.denials();
-    writeln!(out, "   all                 {times:>10}  {lacking:>10}\n")
 }
