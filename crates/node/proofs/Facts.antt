@@ -2,10 +2,11 @@
 --     Facts old s e left       what the event e tells of a node that stood at s, over a store that held old and then left
 use Rattle.std.proofs.Common.{◌≡◌, ℕ, ◌+◌, ◌-◌, ◌<◌, ◌≤◌, Bool, true, false, cond, List, [], ◌∷◌, length, Some, None, Option, sym, refl, ap, le_trans, arith}
 use Rattle.std.proofs.lemmas.Bool.{and_parts, or_parts, not-false, leb-true, leb-false, ltb-false, eqb-false}
+use Rattle.std.specs.List.{list_any}
 use Rattle.rates.specs.Amount.{bound}
 use Rattle.store.specs.Meaning.{Meaning, Sound, top}
 use Rattle.store.proofs.Stages.{top_falling}
-use Rattle.tables.specs.Rows.{present, any}
+use Rattle.tables.specs.Rows.{present}
 use Rattle.tables.specs.Reserves.{level_at, is_parent}
 use Rattle.tables.specs.Taps.{ends_at, Figures}
 use Rattle.tables.specs.Grants.{of_reserve, fits_out}
@@ -33,8 +34,8 @@ pub record Closing (s : Standing) (number old left : ℕ) : Type 0 where
   pub high : number ≤ 31
   pub here : present s.reserves number ≡ true
   pub childless : is_parent s.reserves number ≡ false
-  pub untapped : any (ends_at number) s.taps ≡ false
-  pub ungranted : any (of_reserve number) s.grants ≡ false
+  pub untapped : list_any (ends_at number) s.taps ≡ false
+  pub ungranted : list_any (of_reserve number) s.grants ≡ false
   pub held : left ≡ old
 
 pub record Tapping (s : Standing) (tap source sink n d old left : ℕ) : Type 0 where

@@ -1,16 +1,17 @@
 -- Every call leaves a whole state whole: well made, and counted within 64 bits.
 use Rattle.std.proofs.Common.{◌≡◌, ℕ, ◌≤◌, true, false, [], ◌∷◌, length, sym, refl, subst, arith, length-append}
+use Rattle.std.proofs.lemmas.List.{length-map}
 use Rattle.rates.specs.Amount.{bound}
 use Rattle.store.specs.Meaning.{Sound}
 use Rattle.tables.specs.declared.books.Books.{Books}
 use Rattle.tables.specs.declared.grants.Grant.{Grant}
+use Rattle.tables.specs.Grants.{mark}
 use Rattle.node.specs.Standing.{Standing}
 use Rattle.node.specs.Calls.{Event, refused, opened, closed, tapped, shut, granted, settled, parked, recalled, ticked, audited}
 use Rattle.node.specs.Rules.{after}
 use Rattle.node.specs.Steps.{State, Step, counted}
 use Rattle.node.specs.Sound.{Well, Few, Whole}
 use Rattle.node.proofs.Facts.{Facts, facts}
-use Rattle.tables.proofs.GrantLaws.{length_marked}
 use Rattle.node.proofs.Well.{well_after, grant_well, length_settled}
 
 few_marked : (s t : Standing) (b : Books) → t.ticks ≡ s.ticks → t.serials ≡ s.serials → length t.grants ≡ length s.grants → Few s b → Few t b
@@ -52,8 +53,8 @@ few_after s held b (settled serial amount used lost) held' most x w f =
       spent = omega (arith, f.spent, fewer, small, w.given, x.used);
       lost = omega (arith, f.lost, fewer, small, w.given, x.lost);
     }
-few_after s held b (parked serial amount) held' most x w f = few_marked s (after s (parked serial amount)) b refl refl (length_marked true serial s.grants) f
-few_after s held b (recalled task serial amount) held' most x w f = few_marked s (after s (recalled task serial amount)) b refl refl (length_marked false serial s.grants) f
+few_after s held b (parked serial amount) held' most x w f = few_marked s (after s (parked serial amount)) b refl refl (length-map s.grants (mark true serial)) f
+few_after s held b (recalled task serial amount) held' most x w f = few_marked s (after s (recalled task serial amount)) b refl refl (length-map s.grants (mark false serial)) f
 few_after s held b (ticked harvest loss intake figures) held' most x w f = record {
   received = omega (arith, f.received, x.most);
   outstanding = f.outstanding;

@@ -2,7 +2,8 @@
 use Rattle.std.proofs.Common.{◌≡◌, ℕ, ◌+◌, ◌<◌, ◌≤◌, Bool, true, false, cond, not, eqb, List, [], ◌∷◌, ◌++◌, Some, None, Option, sym, refl, ap, ◌∙◌, arith}
 use Rattle.std.proofs.lemmas.Bool.{and_parts, eqb-true, ne_eqb, false≢true}
 use Rattle.tables.specs.declared.grants.Grant.{Grant}
-use Rattle.tables.specs.Grants.{or_else, grant_of, out_with, fits_out, is_parked, fits_parked, without, marked}
+use Rattle.std.specs.Option.{option_or}
+use Rattle.tables.specs.Grants.{grant_of, out_with, fits_out, is_parked, fits_parked, without, marked}
 use Rattle.node.specs.Sound.{Ledger}
 use Rattle.node.specs.Law.{outstanding}
 
@@ -15,13 +16,13 @@ ledger_granted low high [] g new some l = (omega arith, some, omega arith)
 ledger_granted low high (x ∷ gs) g new some l = (l.0, l.1, ledger_granted x.serial high gs g new some l.2)
 
 -- a grant that a test keeps or drops, over a rest that is in order
-kept_or_dropped : (low high : ℕ) (b : Bool) (g : Grant) (rest : List Grant) → low < g.serial → 1 ≤ g.amount → Ledger g.serial high rest → Ledger low high (cond b rest (g ∷ rest))
-kept_or_dropped low high true g rest a s l = ledger_wider g.serial low high rest (omega arith) l
-kept_or_dropped low high false g rest a s l = (a, s, l)
+kept_or_dropped : (low high : ℕ) (b : Bool) (g : Grant) (rest : List Grant) → low < g.serial → 1 ≤ g.amount → Ledger g.serial high rest → Ledger low high (cond b (g ∷ rest) rest)
+kept_or_dropped low high true g rest a s l = (a, s, l)
+kept_or_dropped low high false g rest a s l = ledger_wider g.serial low high rest (omega arith) l
 
 pub ledger_without : (low high serial : ℕ) (gs : List Grant) → Ledger low high gs → Ledger low high (without serial gs)
 ledger_without low high serial [] l = l
-ledger_without low high serial (g ∷ gs) l = kept_or_dropped low high (eqb g.serial serial) g (without serial gs) l.0 l.1 (ledger_without g.serial high serial gs l.2)
+ledger_without low high serial (g ∷ gs) l = kept_or_dropped low high (not (eqb g.serial serial)) g (without serial gs) l.0 l.1 (ledger_without g.serial high serial gs l.2)
 
 pub ledger_marked : (low high serial : ℕ) (p : Bool) (gs : List Grant) → Ledger low high gs → Ledger low high (marked p serial gs)
 ledger_marked low high serial p [] l = l
@@ -45,10 +46,10 @@ without_none low high serial (g ∷ gs) w l =
 grant_none : (low high serial : ℕ) (gs : List Grant) → serial ≤ low → Ledger low high gs → grant_of serial gs ≡ None
 grant_none low high serial [] w l = refl
 grant_none low high serial (g ∷ gs) w l =
-    ap (λ o. or_else o (cond (eqb g.serial serial) (Some g) None)) (grant_none g.serial high serial gs (omega (arith, l.0)) l.2)
+    ap (λ o. option_or o (cond (eqb g.serial serial) (Some g) None)) (grant_none g.serial high serial gs (omega (arith, l.0)) l.2)
     ∙ ap (λ b. cond b (Some g) None) (ne_eqb g.serial serial (λ e. omega (arith, l.0)))
 
-or_nothing : (o : Option Grant) → or_else o None ≡ o
+or_nothing : (o : Option Grant) → option_or o None ≡ o
 or_nothing None = refl
 or_nothing (Some g) = refl
 
@@ -59,13 +60,13 @@ outstanding_settled low high serial amount (g ∷ gs) l f = go (eqb g.serial ser
   where
     go : (b : Bool) → eqb g.serial serial ≡ b
         → (fits_out serial amount gs ≡ true → outstanding (without serial gs) + amount ≡ outstanding gs)
-        → out_with amount (or_else (grant_of serial gs) (cond b (Some g) None)) ≡ true
-        → outstanding (cond b (without serial gs) (g ∷ without serial gs)) + amount ≡ g.amount + outstanding gs
+        → out_with amount (option_or (grant_of serial gs) (cond b (Some g) None)) ≡ true
+        → outstanding (cond (not b) (g ∷ without serial gs) (without serial gs)) + amount ≡ g.amount + outstanding gs
     go true e later f =
         let same : g.serial ≡ serial = eqb-true g.serial serial e in
         let none = grant_none g.serial high serial gs (omega arith) l.2 in
         let rest = without_none g.serial high serial gs (omega arith) l.2 in
-        let fits : out_with amount (Some g) ≡ true = sym (ap (λ o. out_with amount (or_else o (Some g))) none) ∙ f in
+        let fits : out_with amount (Some g) ≡ true = sym (ap (λ o. out_with amount (option_or o (Some g))) none) ∙ f in
         let amounts : g.amount ≡ amount = eqb-true g.amount amount (and_parts (eqb g.amount amount) (not g.parked) fits).0 in
         omega (arith, ap outstanding rest)
     go false e later f = omega (arith, later (sym (ap (out_with amount) (or_nothing (grant_of serial gs))) ∙ f))
@@ -82,12 +83,12 @@ marked_back low high serial [] l f = absurd (false≢true f)
 marked_back low high serial (g ∷ gs) l f = go (eqb g.serial serial) refl (marked_back g.serial high serial gs l.2) f
   where
     go : (b : Bool) → eqb g.serial serial ≡ b → (fits_parked serial gs ≡ true → marked true serial (marked false serial gs) ≡ gs)
-        → is_parked (or_else (grant_of serial gs) (cond b (Some g) None)) ≡ true
+        → is_parked (option_or (grant_of serial gs) (cond b (Some g) None)) ≡ true
         → record { serial = g.serial; amount = g.amount; reserve = g.reserve; parked = cond b true (cond b false g.parked) } ∷ marked true serial (marked false serial gs) ≡ g ∷ gs
     go true e later f =
         let same : g.serial ≡ serial = eqb-true g.serial serial e in
         let none = grant_none g.serial high serial gs (omega arith) l.2 in
-        let parked : g.parked ≡ true = sym (ap (λ o. is_parked (or_else o (Some g))) none) ∙ f in
+        let parked : g.parked ≡ true = sym (ap (λ o. is_parked (option_or o (Some g))) none) ∙ f in
         ap (λ x. record { serial = g.serial; amount = g.amount; reserve = g.reserve; parked = x } ∷ marked true serial (marked false serial gs)) (sym parked)
         ∙ ap (λ x. g ∷ marked true serial x) (marked_none g.serial high serial false gs (omega arith) l.2)
         ∙ ap (λ x. g ∷ x) (marked_none g.serial high serial true gs (omega arith) l.2)

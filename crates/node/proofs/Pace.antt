@@ -9,7 +9,7 @@ use Rattle.tables.specs.Taps.{tap_due, stepped, figure_of, Figures}
 use Rattle.node.specs.Calls.{Event, History, refused, opened, closed, tapped, shut, granted, settled, parked, recalled, ticked, audited}
 use Rattle.node.specs.Rules.{before_taps}
 use Rattle.node.specs.Law.{standing_after, Tick, tick_of, opens, at_turn, sum_at_ticks, all_at_ticks, ever_since_opened, due_of, due_at, delivered, dues, ticks_since, Enough, Delivery}
-use Rattle.node.proofs.Places.{none_some, some_same, read_written, read_elsewhere, read_empty, getD_each}
+use Rattle.node.proofs.Places.{none_some, some_same, read_written, read_elsewhere, read_empty, get_or_map}
 use Rattle.node.proofs.Turns.{figure_at}
 use Rattle.node.proofs.Tale.{Tale}
 
@@ -120,7 +120,7 @@ kept birth k (shut task tap ∷ h) held tale t here = ⊎_elim
     (cases_eq tap k)
 kept birth k (ticked harvest loss intake figures ∷ h) held tale t here =
     let u : Tick = record { harvest = harvest; loss = loss; intake = intake; figures = figures } in
-    ticked_to birth k h u t (get_or (standing_after birth h).taps k None) refl (sym (getD_each stepped (standing_after birth h).taps k refl) ∙ here) tale.2.figures (kept birth k h tale.0 tale.1)
+    ticked_to birth k h u t (get_or (standing_after birth h).taps k None) refl (sym (get_or_map stepped (standing_after birth h).taps k refl) ∙ here) tale.2.figures (kept birth k h tale.0 tale.1)
 
 pub delivery : (birth : ℕ) (h : History) (held : ℕ) → Tale birth h held → (k : ℕ) (t : Tap) → get_or (standing_after birth h).taps k None ≡ Some t → Delivery birth h k t
 delivery birth h held tale k t here =

@@ -1,6 +1,5 @@
 -- A slip that is out is parked and settled, and one that is recalled and parked again leaves the node as it was.
-use Rattle.std.proofs.Common.{◌≡◌, ℕ, ◌≤◌, true, false, ◌++◌, take, drop, Some, None, sym, ap, ◌∙◌}
-use Rattle.std.proofs.lemmas.List.{take-append-drop}
+use Rattle.std.proofs.Common.{◌≡◌, ℕ, ◌≤◌, true, false, Some, None, sym, ap, ◌∙◌}
 use Rattle.std.proofs.lemmas.Bool.{not-false}
 use Rattle.store.specs.Meaning.{Meaning}
 use Rattle.tables.specs.declared.grants.Grants.{Grants}
@@ -31,23 +30,16 @@ out_settles n slip used m d out within why =
 pub stays_out : {S : Type 0} (n m : Node S) (slip : Slip) → m.grants ≡ n.grants → IsOut slip n → IsOut slip m
 stays_out n m slip e out = rw e out
 
-same_grants : (a b c : Grants) (serial : ℕ) → marked true serial (marked false serial (open_in a)) ≡ open_in a
-    → open_in b ≡ marked false serial (open_in a) → b.count ≡ a.count → drop a.count b.rows ≡ drop a.count a.rows → b.serials ≡ a.serials
-    → open_in c ≡ marked true serial (open_in b) → c.count ≡ b.count → drop b.count c.rows ≡ drop b.count b.rows → c.serials ≡ b.serials → c ≡ a
-same_grants a b c serial back out-is count rest serials in_is count' rest' serials' =
-    let counts : c.count ≡ a.count = count' ∙ count in
-    let front : take a.count c.rows ≡ take a.count a.rows = ap (λ n. take n c.rows) (sym counts) ∙ in_is ∙ ap (marked true serial) out-is ∙ back in
-    let end : drop a.count c.rows ≡ drop a.count a.rows = ap (λ n. drop n c.rows) (sym count) ∙ rest' ∙ ap (λ n. drop n b.rows) count ∙ rest in
-    let rows : c.rows ≡ a.rows = sym (take-append-drop a.count c.rows) ∙ ap (λ x. x ++ drop a.count c.rows) front ∙ ap (λ x. take a.count a.rows ++ x) end ∙ take-append-drop a.count a.rows in
-    ap (λ x. record { rows = x; count = c.count; serials = c.serials }) rows
-    ∙ ap (λ x. record { rows = a.rows; count = x; serials = c.serials }) counts
-    ∙ ap (λ x. record { rows = a.rows; count = a.count; serials = x }) (serials' ∙ serials)
+same_grants : (a b : Grants) → open_in b ≡ open_in a → b.serials ≡ a.serials → b ≡ a
+same_grants a b rows serials =
+    ap (λ x. record { rows = record { items = x }; serials = b.serials }) rows
+    ∙ ap (λ x. record { rows = a.rows; serials = x }) serials
 
 pub there_and_back : {S : Type 0} (n k m : Node S) (held task serial : ℕ) (x : Meaning) → Well (standing_of n) held → turned_down x (standing_of n) (recall task serial) ≡ None → Marked false serial n k → Marked true serial k m → m ≡ n
 there_and_back n k m held task serial x w clear out back =
     let parked : fits_parked serial (open_in n.grants) ≡ true = not-false _ (cleared (tests x (standing_of n) (recall task serial)) clear).0 in
-    let grants : m.grants ≡ n.grants = same_grants n.grants k.grants m.grants serial (marked_back 0 n.grants.serials serial (open_in n.grants) w.ledger parked)
-    out.grants out.count out.further out.serials back.grants back.count back.further back.serials in
+    let grants : m.grants ≡ n.grants = same_grants n.grants m.grants
+    (back.grants ∙ ap (marked true serial) out.grants ∙ marked_back 0 n.grants.serials serial (open_in n.grants) w.ledger parked) (back.serials ∙ out.serials) in
     back.others
     ∙ ap (λ y. record { store = y.store; reserves = y.reserves; taps = y.taps; grants = m.grants; books = y.books; ticks = y.ticks }) out.others
     ∙ ap (λ y. record { store = n.store; reserves = n.reserves; taps = n.taps; grants = y; books = n.books; ticks = n.ticks }) grants

@@ -1,8 +1,8 @@
--- Laws of tables whose places may be empty: reads after a write, after `each`, after a new level.
-use Rattle.std.proofs.Common.{◌≡◌, ℕ, zero, suc, List, [], ◌∷◌, get_or, set, replicate, Some, None, Option, sym, refl, ◌∙◌, arith}
+-- Laws of tables whose places may be empty: reads after a write, after `map`, after a new level.
+use Rattle.std.proofs.Common.{◌≡◌, ℕ, zero, suc, List, [], ◌∷◌, get_or, map, is_some, set, replicate, Some, None, Option, sym, refl, ◌∙◌, arith}
 use Rattle.std.proofs.lemmas.List.{get_or-set_other}
 use Rattle.tables.specs.declared.reserves.Reserve.{Reserve}
-use Rattle.tables.specs.Rows.{is_open, present, each}
+use Rattle.tables.specs.Rows.{present}
 use Rattle.tables.specs.Reserves.{ReserveRows, relevel, put_level}
 
 pub none_some : {A : Type 0} {x : A} → ◌≡◌ {A = Option A} None (Some x) → ⊥
@@ -28,19 +28,19 @@ nothing_there (suc n) (suc k) = nothing_there n k
 pub read_empty : {A : Type 0} (n k : ℕ) (x : A) → get_or (replicate {A = Option A} n None) k None ≡ Some x → ⊥
 read_empty n k x e = none_some (sym (nothing_there n k) ∙ e)
 
-pub getD_each : {A B : Type 0} (f : Option A → Option B) (xs : List (Option A)) (k : ℕ) → f None ≡ None → get_or (each f xs) k None ≡ f (get_or xs k None)
-getD_each f [] k e = sym e
-getD_each f (x ∷ xs) zero e = refl
-getD_each f (x ∷ xs) (suc k) e = getD_each f xs k e
+pub get_or_map : {A B : Type 0} (f : Option A → Option B) (xs : List (Option A)) (k : ℕ) → f None ≡ None → get_or (map f xs) k None ≡ f (get_or xs k None)
+get_or_map f [] k e = sym e
+get_or_map f (x ∷ xs) zero e = refl
+get_or_map f (x ∷ xs) (suc k) e = get_or_map f xs k e
 
 -- a new level opens nothing and closes nothing
-is_open_relevel : (v : ℕ) (o : Option Reserve) → is_open (relevel v o) ≡ is_open o
-is_open_relevel v None = refl
-is_open_relevel v (Some x) = refl
+is_some_relevel : (v : ℕ) (o : Option Reserve) → is_some (relevel v o) ≡ is_some o
+is_some_relevel v None = refl
+is_some_relevel v (Some x) = refl
 
 pub present_put_level : (rs : ReserveRows) (i v j : ℕ) → present (put_level rs i v) j ≡ present rs j
 present_put_level [] i v j = refl
-present_put_level (r ∷ rs) zero v zero = is_open_relevel v r
+present_put_level (r ∷ rs) zero v zero = is_some_relevel v r
 present_put_level (r ∷ rs) zero v (suc j) = refl
 present_put_level (r ∷ rs) (suc i) v zero = refl
 present_put_level (r ∷ rs) (suc i) v (suc j) = present_put_level rs i v j

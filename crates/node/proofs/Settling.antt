@@ -4,8 +4,9 @@ use Rattle.store.specs.Meaning.{Meaning, Sound, Charged}
 use Rattle.tables.specs.declared.grants.Grant.{Grant}
 use Rattle.tables.specs.declared.books.Books.{Books}
 use Rattle.tables.specs.Reserves.{ReserveRows, fill_up, return_to}
+use Rattle.std.specs.Option.{option_map}
 use Rattle.tables.specs.declared.grants.Grants.{Grants}
-use Rattle.tables.specs.Grants.{open_in, grant_of, reserve_in, reserve_of, out_with, fits_out, without, marked, remarked}
+use Rattle.tables.specs.Grants.{open_in, grant_of, reserve_in, reserve_of, out_with, fits_out, without, mark, marked}
 use Rattle.tables.proofs.GrantLaws.{grant_of_serial, grant_of_marked}
 use Rattle.tables.specs.Books.{count_settled}
 use Rattle.node.specs.declared.denial.Denial.TheVariants.{NoSuchGrant, Overused}
@@ -51,5 +52,5 @@ settle_step m m' s b b' serial amount used back lost g rs gs serials sound w fit
 pub recalled_out : (t : Grants) (serial : ℕ) (g : Grant) (gs : List Grant) → grant_of serial (open_in t) ≡ Some g → gs ≡ marked false serial (open_in t) → fits_out serial g.amount gs ≡ true
 recalled_out t serial g gs found marks =
     let same : g.serial ≡ serial = grant_of_serial serial (open_in t) g found in
-    ap (fits_out serial g.amount) marks ∙ ap (out_with g.amount) (grant_of_marked false serial (open_in t) ∙ ap (remarked false serial) found)
+    ap (fits_out serial g.amount) marks ∙ ap (out_with g.amount) (grant_of_marked false serial (open_in t) ∙ ap (option_map (mark false serial)) found)
     ∙ ap (λ b. b && not (cond (eqb g.serial serial) false g.parked)) (eq-eqb g.amount g.amount refl) ∙ ap (λ b. not (cond b false g.parked)) (eq-eqb g.serial serial same)

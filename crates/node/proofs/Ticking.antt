@@ -1,5 +1,5 @@
 -- A tick: the loss is charged whole, the intake always fits the root, and every tap has a rate.
-use Rattle.std.proofs.Common.{◌≡◌, ℕ, ◌+◌, ◌<◌, ◌≤◌, cond, ltb, leb, List, length, get_or, take, Some, None, Option, refl, ap, ◌∙◌, subst, arith, le-ltb}
+use Rattle.std.proofs.Common.{◌≡◌, ℕ, ◌+◌, ◌<◌, ◌≤◌, cond, ltb, leb, List, length, map, get_or, take, Some, None, Option, refl, ap, ◌∙◌, subst, arith, le-ltb}
 use borrow.Author.Tests.{lt-leb}
 use Rattle.std.proofs.lemmas.List.{take_all}
 use Rattle.rates.specs.Amount.{bound}
@@ -7,7 +7,6 @@ use Rattle.store.specs.Meaning.{Meaning, Sound, Charged, Ticked}
 use Rattle.tables.specs.declared.taps.Tap.{Tap}
 use Rattle.tables.specs.declared.grants.Grant.{Grant}
 use Rattle.tables.specs.declared.books.Books.{Books}
-use Rattle.tables.specs.Rows.{each}
 use Rattle.tables.specs.Reserves.{ReserveRows, fill, charge_loss}
 use Rattle.tables.specs.Taps.{TapRows, TapFits, stepped, after_moves, Figures}
 use Rattle.tables.specs.Books.{count_tick}
@@ -57,7 +56,7 @@ tick_step m mid m' s b b' harvest loss intake k report start rs ts gs serials ti
     subst (λ x. Figures x s.taps (take 96 report)) from (subst (λ x. Figures start x (take 96 report)) whole (subst (Figures start (take k s.taps)) told ran.2)) in
     let stands : rs ≡ after_moves (before_taps s loss intake) s.taps (take 96 report) =
     ran.1 ∙ ap (after_moves start (take k s.taps)) told ∙ ap (λ x. after_moves start x (take 96 report)) whole ∙ ap (λ x. after_moves x s.taps (take 96 report)) from in
-    let steps : ts ≡ each stepped s.taps = ran.0 ∙ turned_all s.taps k (omega (arith, w.well.taps, last)) in
+    let steps : ts ≡ map stepped s.taps = ran.0 ∙ turned_all s.taps k (omega (arith, w.well.taps, last)) in
     record {
       places = length report;
       judged = tick_clear m s harvest (length report) room most count;
@@ -65,8 +64,8 @@ tick_step m mid m' s b b' harvest loss intake k report start rs ts gs serials ti
       standing =
           ap (λ x. record { reserves = x; taps = ts; grants = gs; serials = serials; ticks = ticks + 1 }) stands
           ∙ ap (λ x. record { reserves = after_moves (before_taps s loss intake) s.taps (take 96 report); taps = x; grants = gs; serials = serials; ticks = ticks + 1 }) steps
-          ∙ ap (λ x. record { reserves = after_moves (before_taps s loss intake) s.taps (take 96 report); taps = each stepped s.taps; grants = x; serials = serials; ticks = ticks + 1 }) same_grants
-          ∙ ap (λ x. record { reserves = after_moves (before_taps s loss intake) s.taps (take 96 report); taps = each stepped s.taps; grants = s.grants; serials = x; ticks = ticks + 1 }) same-serials
-          ∙ ap (λ x. record { reserves = after_moves (before_taps s loss intake) s.taps (take 96 report); taps = each stepped s.taps; grants = s.grants; serials = s.serials; ticks = x + 1 }) same-ticks;
+          ∙ ap (λ x. record { reserves = after_moves (before_taps s loss intake) s.taps (take 96 report); taps = map stepped s.taps; grants = x; serials = serials; ticks = ticks + 1 }) same_grants
+          ∙ ap (λ x. record { reserves = after_moves (before_taps s loss intake) s.taps (take 96 report); taps = map stepped s.taps; grants = s.grants; serials = x; ticks = ticks + 1 }) same-serials
+          ∙ ap (λ x. record { reserves = after_moves (before_taps s loss intake) s.taps (take 96 report); taps = map stepped s.taps; grants = s.grants; serials = s.serials; ticks = x + 1 }) same-ticks;
       books = books ∙ ticked_exact s b w.few w.well.serials w.well.ticks harvest loss intake (take 96 report) most (omega (arith, lost.within, sound.within, sound.bounded));
     }

@@ -1,9 +1,8 @@
 -- The turns of the taps in one tick, one after the other.
-use Rattle.std.proofs.Common.{◌≡◌, ℕ, zero, suc, ◌+◌, ◌<◌, ◌≤◌, List, [], ◌∷◌, ◌++◌, length, get_or, take, drop, set, None, Option, sym, refl, ap, ◌∙◌, subst, append_assoc, arith}
+use Rattle.std.proofs.Common.{◌≡◌, ℕ, zero, suc, ◌+◌, ◌<◌, ◌≤◌, List, [], ◌∷◌, ◌++◌, length, get_or, map, take, drop, set, None, Option, sym, refl, ap, ◌∙◌, subst, append_assoc, arith}
 use lib.Seq.{set_at}
-use Rattle.std.proofs.lemmas.List.{take_more, take_more_set, take_all, drop_more, drop_all, append-nil, get_or_at, length-take-le}
+use Rattle.std.proofs.lemmas.List.{take_more, take_more_set, take_all, drop_more, drop_all, append-nil, get_or_at, length-take-le, length-map, map-append}
 use Rattle.tables.specs.declared.taps.Tap.{Tap}
-use Rattle.tables.specs.Rows.{each}
 use Rattle.tables.specs.Reserves.{ReserveRows}
 use Rattle.tables.specs.Taps.{TapRows, stepped, figure_of, moved, after_moves, Figures, TapFits, Ran}
 
@@ -26,36 +25,28 @@ figures_more rs [] (p ∷ qs) t q f e = absurd f
 figures_more rs (s ∷ ts) [] t q f e = absurd f
 figures_more rs (s ∷ ts) (p ∷ qs) t q f e = (f.0, figures_more (moved rs s p) ts qs t q f.1 e)
 
-each_push : (ts : TapRows) (t : Option Tap) → each stepped (ts ++ t ∷ []) ≡ each stepped ts ++ stepped t ∷ []
-each_push [] t = refl
-each_push (s ∷ ts) t = ap (λ xs. stepped s ∷ xs) (each_push ts t)
-
-length_each : (ts : TapRows) → length (each stepped ts) ≡ length ts
-length_each [] = refl
-length_each (s ∷ ts) = ap suc (length_each ts)
-
 -- the rows when the first k have had their turn
 abbrev pub turned : ℕ → TapRows → TapRows
-turned k ts = each stepped (take k ts) ++ drop k ts
+turned k ts = map stepped (take k ts) ++ drop k ts
 
 module _ (ts : TapRows) (k : ℕ) (lt : k < length ts) where
-  front : length (each stepped (take k ts)) ≡ k
-  front = length_each (take k ts) ∙ length-take-le k ts (omega arith)
+  front : length (map stepped (take k ts)) ≡ k
+  front = length-map (take k ts) stepped ∙ length-take-le k ts (omega arith)
 
-  split : turned k ts ≡ each stepped (take k ts) ++ get_or ts k None ∷ drop (k + 1) ts
-  split = ap (λ xs. each stepped (take k ts) ++ xs) (drop_more ts k None lt)
+  split : turned k ts ≡ map stepped (take k ts) ++ get_or ts k None ∷ drop (k + 1) ts
+  split = ap (λ xs. map stepped (take k ts) ++ xs) (drop_more ts k None lt)
 
   -- row k has not had its turn
   pub turned_here : get_or (turned k ts) k None ≡ get_or ts k None
-  turned_here = ap (λ xs. get_or xs k None) split ∙ get_or_at (each stepped (take k ts)) (get_or ts k None) (drop (k + 1) ts) None k front
+  turned_here = ap (λ xs. get_or xs k None) split ∙ get_or_at (map stepped (take k ts)) (get_or ts k None) (drop (k + 1) ts) None k front
 
   pub turned_more : set (turned k ts) k (stepped (get_or ts k None)) ≡ turned (k + 1) ts
   turned_more =
       ap (λ xs. set xs k (stepped (get_or ts k None))) split
-      ∙ set_at (each stepped (take k ts)) (get_or ts k None) (drop (k + 1) ts) (stepped (get_or ts k None)) k front
-      ∙ sym (append_assoc (each stepped (take k ts)) (stepped (get_or ts k None) ∷ []) (drop (k + 1) ts))
-      ∙ ap (λ xs. xs ++ drop (k + 1) ts) (sym (each_push (take k ts) (get_or ts k None)))
-      ∙ ap (λ xs. each stepped xs ++ drop (k + 1) ts) (sym (take_more ts k None lt))
+      ∙ set_at (map stepped (take k ts)) (get_or ts k None) (drop (k + 1) ts) (stepped (get_or ts k None)) k front
+      ∙ sym (append_assoc (map stepped (take k ts)) (stepped (get_or ts k None) ∷ []) (drop (k + 1) ts))
+      ∙ ap (λ xs. xs ++ drop (k + 1) ts) (sym (map-append stepped (take k ts) (get_or ts k None ∷ [])))
+      ∙ ap (λ xs. map stepped xs ++ drop (k + 1) ts) (sym (take_more ts k None lt))
 
 -- what tap k's turn makes of the turns before it
 pub turn_more : (start : ReserveRows) (ts : TapRows) (report : List ℕ) (k q : ℕ) (rs rs' : ReserveRows) (now now' : TapRows) → k < length ts → k < length report → TapFits (get_or ts k None)
@@ -76,8 +67,8 @@ turn_more start ts report k q rs rs' now now' lt room fits tapped stands figures
     )
 
 -- after the last turn
-pub turned_all : (ts : TapRows) (k : ℕ) → length ts ≤ k → turned k ts ≡ each stepped ts
-turned_all ts k all = ap (λ xs. each stepped xs ++ drop k ts) (take_all k ts all) ∙ ap (λ xs. each stepped ts ++ xs) (drop_all k ts all) ∙ append-nil (each stepped ts)
+pub turned_all : (ts : TapRows) (k : ℕ) → length ts ≤ k → turned k ts ≡ map stepped ts
+turned_all ts k all = ap (λ xs. map stepped xs ++ drop k ts) (take_all k ts all) ∙ ap (λ xs. map stepped ts ++ xs) (drop_all k ts all) ∙ append-nil (map stepped ts)
 
 -- the figure of tap k is what it moves at its turn
 pub figure_at : (rs : ReserveRows) (ts : TapRows) (qs : List ℕ) (k : ℕ) → Figures rs ts qs → get_or qs k 0 ≡ figure_of (after_moves rs (take k ts) (take k qs)) (get_or ts k None)

@@ -1,21 +1,22 @@
 -- Every call leaves a well-made node well made.
-use Rattle.std.proofs.Common.{◌≡◌, ℕ, zero, suc, ◌+◌, ◌-◌, ◌<◌, ◌≤◌, Bool, true, false, cond, eqb, List, [], ◌∷◌, ◌++◌, length, get_or, set, Some, None, Option, sym, refl, ap, ◌∙◌, subst, ⊎_elim, zero-le, mod-lt, arith}
-use Rattle.std.proofs.lemmas.List.{length-set, length-append, get_or-set_other}
+use Rattle.std.proofs.Common.{◌≡◌, ℕ, zero, suc, ◌+◌, ◌-◌, ◌<◌, ◌≤◌, Bool, true, false, cond, eqb, List, [], ◌∷◌, ◌++◌, length, get_or, map, not, is_some, set, Some, None, Option, sym, refl, ap, ◌∙◌, subst, ⊎_elim, zero-le, mod-lt, arith}
+use Rattle.std.proofs.lemmas.List.{length-set, length-append, length-map, get_or-set_other}
 use Rattle.std.proofs.lemmas.Bool.{cases_eq, eqb-true, eqb-false, and_parts, or_parts, false≢true, true≢false}
 use Rattle.rates.specs.Amount.{bound}
 use Rattle.tables.specs.declared.reserves.Reserve.{Reserve}
 use Rattle.tables.specs.declared.taps.Tap.{Tap}
 use Rattle.tables.specs.declared.grants.Grant.{Grant}
-use Rattle.tables.specs.Rows.{is_open, present, any, each}
+use Rattle.std.specs.List.{list_any}
+use Rattle.std.specs.Option.{option_or}
+use Rattle.tables.specs.Rows.{present}
 use Rattle.tables.specs.Reserves.{ReserveRows, level_in, level_at, limit_in, parent_in, parent_of, give, lower, return_to, charge_loss, parent_is, is_parent}
 use Rattle.tables.specs.Taps.{TapRows, stepped, ends_at, figure_of, moved, after_moves, Figures}
-use Rattle.tables.specs.Grants.{or_else, grant_of, reserve_in, reserve_of, out_with, fits_out, of_reserve, without, marked}
-use Rattle.tables.proofs.GrantLaws.{length_marked}
+use Rattle.tables.specs.Grants.{grant_of, reserve_in, reserve_of, out_with, fits_out, of_reserve, without, mark, marked}
 use Rattle.node.specs.Standing.{Standing, born}
 use Rattle.node.specs.Calls.{Event, refused, opened, closed, tapped, shut, granted, settled, parked, recalled, ticked, audited}
 use Rattle.node.specs.Rules.{after, before_taps}
 use Rattle.node.specs.Sound.{levels, Within, Parents, TapWell, TapsWell, GrantsWell, Ledger, Well}
-use Rattle.node.proofs.Places.{none_some, nothing_there, some_same, read_written, read_elsewhere, read_empty, getD_each}
+use Rattle.node.proofs.Places.{none_some, nothing_there, some_same, read_written, read_elsewhere, read_empty, get_or_map}
 use Rattle.node.proofs.Facts.{Facts, Opening, Closing, Ticking}
 use Rattle.node.proofs.Ledger.{ledger_granted, ledger_without, ledger_marked}
 use Rattle.node.proofs.Levels.{levels_set, levels_give, levels_lower, levels_return, levels_charge_loss}
@@ -63,25 +64,25 @@ parents_opened rs i x from p j o = ⊎_elim
     subst (λ y. present (set rs i (Some x)) y ≡ true) (sym up) (grows_set rs i x x.parent from))
     (λ e.
     let same = get_or-set_other rs i (suc j) (Some x) None e in
-    subst (λ y. present (set rs i (Some x)) y ≡ true) (sym (ap parent_in same)) (grows_set rs i x (parent_of rs (suc j)) (p j (sym (ap is_open same) ∙ o))))
+    subst (λ y. present (set rs i (Some x)) y ≡ true) (sym (ap parent_in same)) (grows_set rs i x (parent_of rs (suc j)) (p j (sym (ap is_some same) ∙ o))))
     (cases_eq (suc j) i)
 
 -- closing one
 
-any_false : {A : Type 0} (f : Option A → Bool) (xs : List (Option A)) (k : ℕ) → f None ≡ false → any f xs ≡ false → f (get_or xs k None) ≡ false
+any_false : {A : Type 0} (f : Option A → Bool) (xs : List (Option A)) (k : ℕ) → f None ≡ false → list_any f xs ≡ false → f (get_or xs k None) ≡ false
 any_false f [] k n a = n
-any_false f (x ∷ xs) zero n a = (or_parts (f x) (any f xs) a).0
-any_false f (x ∷ xs) (suc k) n a = any_false f xs k n (or_parts (f x) (any f xs) a).1
+any_false f (x ∷ xs) zero n a = (or_parts (f x) (list_any f xs) a).0
+any_false f (x ∷ xs) (suc k) n a = any_false f xs k n (or_parts (f x) (list_any f xs) a).1
 
 stays_open : (rs : ReserveRows) (i j : ℕ) → (j ≡ i → ⊥) → present rs j ≡ true → present (set rs i None) j ≡ true
-stays_open rs i j differ o = ap is_open (get_or-set_other rs i j None None differ) ∙ o
+stays_open rs i j differ o = ap is_some (get_or-set_other rs i j None None differ) ∙ o
 
 shut_now : (rs : ReserveRows) (i : ℕ) → present (set rs i None) i ≡ false
 shut_now [] i = refl
 shut_now (r ∷ rs) zero = refl
 shut_now (r ∷ rs) (suc i) = shut_now rs i
 
-other_parent : (o : Option Reserve) (i : ℕ) → is_open o ≡ true → parent_is i o ≡ false → parent_in o ≡ i → ⊥
+other_parent : (o : Option Reserve) (i : ℕ) → is_some o ≡ true → parent_is i o ≡ false → parent_in o ≡ i → ⊥
 other_parent None i o n e = absurd (false≢true o)
 other_parent (Some x) i o n e = eqb-false x.parent i n e
 
@@ -94,7 +95,7 @@ parents_closed rs i childless p j o = ⊎_elim
     (λ e. absurd (false≢true (sym (shut_now rs i) ∙ subst (λ k. present (set rs i None) k ≡ true) e o)))
     (λ e.
     let same = get_or-set_other rs i (suc j) None None e in
-    let was : present rs (suc j) ≡ true = sym (ap is_open same) ∙ o in
+    let was : present rs (suc j) ≡ true = sym (ap is_some same) ∙ o in
     subst (λ y. present (set rs i None) y ≡ true) (sym (ap parent_in same)) (stays_open rs i (parent_of rs (suc j)) (not_parent rs i j childless was) (p j was)))
     (cases_eq (suc j) i)
 
@@ -103,7 +104,7 @@ pub parent_open : (rs : ReserveRows) (i : ℕ) → 1 ≤ i → present rs i ≡ 
 parent_open rs zero low here childless p = absurd (omega arith)
 parent_open rs (suc j) low here childless p = stays_open rs (suc j) (parent_of rs (suc j)) (not_parent rs (suc j) j childless here) (p j here)
 
-taps_closed : (rs : ReserveRows) (ts : TapRows) (i : ℕ) → any (ends_at i) ts ≡ false → TapsWell rs ts → TapsWell (set rs i None) ts
+taps_closed : (rs : ReserveRows) (ts : TapRows) (i : ℕ) → list_any (ends_at i) ts ≡ false → TapsWell rs ts → TapsWell (set rs i None) ts
 taps_closed rs ts i untapped w k t here =
     let was = w k t here in
     let ends = or_parts (eqb t.source i) (eqb t.sink i) (ap (ends_at i) (sym here) ∙ any_false (ends_at i) ts k refl untapped) in
@@ -114,10 +115,10 @@ taps_closed rs ts i untapped w k t here =
       rate = was.rate;
     }
 
-grants_closed : (rs : ReserveRows) (gs : List Grant) (i : ℕ) → any (of_reserve i) gs ≡ false → GrantsWell rs gs → GrantsWell (set rs i None) gs
+grants_closed : (rs : ReserveRows) (gs : List Grant) (i : ℕ) → list_any (of_reserve i) gs ≡ false → GrantsWell rs gs → GrantsWell (set rs i None) gs
 grants_closed rs [] i n w = tt
 grants_closed rs (g ∷ gs) i n w =
-    let parts = or_parts (of_reserve i g) (any (of_reserve i) gs) n in
+    let parts = or_parts (of_reserve i g) (list_any (of_reserve i) gs) n in
     (stays_open rs i g.reserve (eqb-false g.reserve i parts.0) w.0, w.1, grants_closed rs gs i parts.1 w.2)
 
 -- taps
@@ -141,12 +142,8 @@ tap_stepped rs (Some x) t w e =
     let pos : 0 < x.d = omega (arith, was.rate.2) in
     subst (TapWell rs) (some_same e) (record { from = was.from; to = was.to; apart = was.apart; rate = (was.rate.0, was.rate.1, mod-lt (x.n + x.r) pos) })
 
-taps_stepped : (rs : ReserveRows) (ts : TapRows) → TapsWell rs ts → TapsWell rs (each stepped ts)
-taps_stepped rs ts w k t here = tap_stepped rs (get_or ts k None) t (w k) (sym (getD_each stepped ts k refl) ∙ here)
-
-length_each : {A B : Type 0} (f : A → B) (xs : List A) → length (each f xs) ≡ length xs
-length_each f [] = refl
-length_each f (x ∷ xs) = ap suc (length_each f xs)
+taps_stepped : (rs : ReserveRows) (ts : TapRows) → TapsWell rs ts → TapsWell rs (map stepped ts)
+taps_stepped rs ts w k t here = tap_stepped rs (get_or ts k None) t (w k) (sym (get_or_map stepped ts k refl) ∙ here)
 
 -- grants
 
@@ -154,25 +151,25 @@ grants_more : (rs : ReserveRows) (gs : List Grant) (g : Grant) → present rs g.
 grants_more rs [] g o q w = (o, q, tt)
 grants_more rs (x ∷ gs) g o q w = (w.0, w.1, grants_more rs gs g o q w.2)
 
-grants_cond : (rs : ReserveRows) (b : Bool) (g : Grant) (gs : List Grant) → present rs g.reserve ≡ true → g.amount ≤ bound → GrantsWell rs gs → GrantsWell rs (cond b gs (g ∷ gs))
-grants_cond rs true g gs o q w = w
-grants_cond rs false g gs o q w = (o, q, w)
+grants_cond : (rs : ReserveRows) (b : Bool) (g : Grant) (gs : List Grant) → present rs g.reserve ≡ true → g.amount ≤ bound → GrantsWell rs gs → GrantsWell rs (cond b (g ∷ gs) gs)
+grants_cond rs true g gs o q w = (o, q, w)
+grants_cond rs false g gs o q w = w
 
 grants_without : (rs : ReserveRows) (serial : ℕ) (gs : List Grant) → GrantsWell rs gs → GrantsWell rs (without serial gs)
 grants_without rs serial [] w = tt
-grants_without rs serial (g ∷ gs) w = grants_cond rs (eqb g.serial serial) g (without serial gs) w.0 w.1 (grants_without rs serial gs w.2)
+grants_without rs serial (g ∷ gs) w = grants_cond rs (not (eqb g.serial serial)) g (without serial gs) w.0 w.1 (grants_without rs serial gs w.2)
 
 grants_marked : (rs : ReserveRows) (p : Bool) (serial : ℕ) (gs : List Grant) → GrantsWell rs gs → GrantsWell rs (marked p serial gs)
 grants_marked rs p serial [] w = tt
 grants_marked rs p serial (g ∷ gs) w = (w.0, w.1, grants_marked rs p serial gs w.2)
 
-length_cond : (b : Bool) (g : Grant) (gs : List Grant) → length (cond b gs (g ∷ gs)) ≤ suc (length gs)
+length_cond : (b : Bool) (g : Grant) (gs : List Grant) → length (cond b (g ∷ gs) gs) ≤ suc (length gs)
 length_cond true g gs = omega arith
 length_cond false g gs = omega arith
 
 length_without : (serial : ℕ) (gs : List Grant) → length (without serial gs) ≤ length gs
 length_without serial [] = omega arith
-length_without serial (g ∷ gs) = omega (arith, length_cond (eqb g.serial serial) g (without serial gs), length_without serial gs)
+length_without serial (g ∷ gs) = omega (arith, length_cond (not (eqb g.serial serial)) g (without serial gs), length_without serial gs)
 
 -- a grant that is there goes
 pub length_settled : (serial amount : ℕ) (gs : List Grant) → fits_out serial amount gs ≡ true → length (without serial gs) < length gs
@@ -180,7 +177,7 @@ length_settled serial amount [] f = absurd (false≢true f)
 length_settled serial amount (g ∷ gs) f = go (grant_of serial gs) (length_settled serial amount gs) (eqb g.serial serial) f
   where
     go : (o : Option Grant) → (out_with amount o ≡ true → length (without serial gs) < length gs) → (b : Bool)
-        → out_with amount (or_else o (cond b (Some g) None)) ≡ true → length (cond b (without serial gs) (g ∷ without serial gs)) < suc (length gs)
+        → out_with amount (option_or o (cond b (Some g) None)) ≡ true → length (cond (not b) (g ∷ without serial gs) (without serial gs)) < suc (length gs)
     go (Some x) later true f = omega (arith, later f)
     go (Some x) later false f = omega (arith, later f)
     go None later true f = omega (arith, length_without serial gs)
@@ -192,15 +189,15 @@ grant_well rs serial amount [] f w = absurd (false≢true f)
 grant_well rs serial amount (g ∷ gs) f w = go (grant_of serial gs) (λ later. grant_well rs serial amount gs later w.2) (eqb g.serial serial) f
   where
     go : (o : Option Grant) → (out_with amount o ≡ true → (present rs (reserve_in o) ≡ true) × (amount ≤ bound)) → (b : Bool)
-        → out_with amount (or_else o (cond b (Some g) None)) ≡ true
-        → (present rs (reserve_in (or_else o (cond b (Some g) None))) ≡ true) × (amount ≤ bound)
+        → out_with amount (option_or o (cond b (Some g) None)) ≡ true
+        → (present rs (reserve_in (option_or o (cond b (Some g) None))) ≡ true) × (amount ≤ bound)
     go (Some x) later b f = later f
     go None later true f = (w.0, subst (λ q. q ≤ bound) (eqb-true g.amount amount (and_parts _ _ f).0) w.1)
     go None later false f = absurd (false≢true f)
 
 -- levels
 
-level_absent : (o : Option Reserve) → is_open o ≡ false → level_in o ≡ 0
+level_absent : (o : Option Reserve) → is_some o ≡ false → level_in o ≡ 0
 level_absent None e = refl
 level_absent (Some x) e = absurd (true≢false e)
 
@@ -370,7 +367,7 @@ re_ticked s held ticks most w = record {
 }
 
 well_tick : (s : Standing) (held held' harvest loss intake : ℕ) (figures : List ℕ) → Ticking s harvest loss intake figures held held' → Well s held
-    → Well (record { reserves = after_moves (before_taps s loss intake) s.taps figures; taps = each stepped s.taps; grants = s.grants; serials = s.serials; ticks = s.ticks + 1 }) held'
+    → Well (record { reserves = after_moves (before_taps s loss intake) s.taps figures; taps = map stepped s.taps; grants = s.grants; serials = s.serials; ticks = s.ticks + 1 }) held'
 well_tick s held held' harvest loss intake figures f w =
     let rs : ReserveRows = charge_loss loss s.reserves in
     let mid : ReserveRows = give rs 0 intake in
@@ -384,7 +381,7 @@ well_tick s held held' harvest loss intake figures f w =
     let within : Within (after_moves mid s.taps figures) = within_after_moves mid s.taps figures f.figures (λ j. within_root_given rs intake (within_charge_loss loss s.reserves w.within) j) in
     let one = releveled s held held' (after_moves mid s.taps figures) (alike_trans start (alike_after_moves mid s.taps figures))
     (moves ∙ given ∙ tick_sum (levels rs) (levels s.reserves) lost w.levels f.held) within w in
-    let two = re_tapped _ held' (each stepped s.taps) (length_each stepped s.taps ∙ w.taps) (taps_stepped _ s.taps one.ends) one in
+    let two = re_tapped _ held' (map stepped s.taps) (length-map s.taps stepped ∙ w.taps) (taps_stepped _ s.taps one.ends) one in
     re_ticked _ held' (s.ticks + 1) (omega (arith, f.count)) two
   where
     tick_sum : (rest all : ℕ) → rest + loss ≡ all → all ≡ held → held' ≡ held - loss + intake → rest + intake ≡ held'
@@ -418,9 +415,9 @@ well_after s held (settled serial amount used lost) held' f w =
     let one = releveled s held held' rs (alike_return s.reserves i back) (sum ∙ ap (λ x. x + back) w.levels ∙ sym f.held) (within_return s.reserves i back w.within) w in
     re_granted _ held' (without serial s.grants) s.serials (grants_without rs serial s.grants one.owners) (omega (arith, length_without serial s.grants, w.few)) (omega (arith, length_without serial s.grants, w.given)) (ledger_without 0 s.serials serial s.grants w.ledger) w.serials one
 well_after s held (parked serial amount) held' f w =
-    re_granted s held' (marked true serial s.grants) s.serials (grants_marked s.reserves true serial s.grants w.owners) (omega (arith, length_marked true serial s.grants, w.few)) (omega (arith, length_marked true serial s.grants, w.given)) (ledger_marked 0 s.serials serial true s.grants w.ledger) w.serials (well_same s held held' f w)
+    re_granted s held' (marked true serial s.grants) s.serials (grants_marked s.reserves true serial s.grants w.owners) (omega (arith, length-map s.grants (mark true serial), w.few)) (omega (arith, length-map s.grants (mark true serial), w.given)) (ledger_marked 0 s.serials serial true s.grants w.ledger) w.serials (well_same s held held' f w)
 well_after s held (recalled task serial amount) held' f w =
-    re_granted s held' (marked false serial s.grants) s.serials (grants_marked s.reserves false serial s.grants w.owners) (omega (arith, length_marked false serial s.grants, w.few)) (omega (arith, length_marked false serial s.grants, w.given)) (ledger_marked 0 s.serials serial false s.grants w.ledger) w.serials (well_same s held held' f w)
+    re_granted s held' (marked false serial s.grants) s.serials (grants_marked s.reserves false serial s.grants w.owners) (omega (arith, length-map s.grants (mark false serial), w.few)) (omega (arith, length-map s.grants (mark false serial), w.given)) (ledger_marked 0 s.serials serial false s.grants w.ledger) w.serials (well_same s held held' f w)
 well_after s held (ticked harvest loss intake figures) held' f w = well_tick s held held' harvest loss intake figures f w
 well_after s held (audited t) held' f w = well_same s held held' f w
 
@@ -432,7 +429,7 @@ well_born held = record {
   root_limit = refl;
   levels = omega arith;
   within = λ j. subst (λ o. level_in o ≤ limit_in o) (sym (nothing_there {A = Reserve} 31 j)) zero-le;
-  parents = λ j o. absurd (false≢true (sym (ap is_open (nothing_there {A = Reserve} 31 j)) ∙ o));
+  parents = λ j o. absurd (false≢true (sym (ap is_some (nothing_there {A = Reserve} 31 j)) ∙ o));
   ends = λ k t here. absurd (read_empty 96 k t here);
   owners = tt;
   few = omega arith;

@@ -10,7 +10,7 @@
 --     refusal_of r           why a call was refused, if it was
 --     opening, closing, tapping, shutting, granting, settling, parking, recalling, ticking
 --                            the event of each call, by its arguments and its answer
-use Rattle.std.specs.Prelude.{◌≡◌, ℕ, Bool, true, List, length, take, drop, Some, None, Ok, Err, Option, Result}
+use Rattle.std.specs.Prelude.{◌≡◌, ℕ, Bool, true, List, length, take, Some, None, Ok, Err, Option, Result}
 use Rattle.store.specs.declared.store.Store.{Ghosts}
 use Rattle.store.specs.Meaning.{Meaning, meaning, Drawn}
 use Rattle.tables.specs.Grants.{open_in, fits_out, marked}
@@ -40,8 +40,6 @@ IsOut slip n = fits_out slip.serial slip.amount (open_in n.grants) ≡ true
 pub record Marked {S : Type 0} (p : Bool) (serial : ℕ) (n m : Node S) : Type 0 where
   pub others : m ≡ record { store = n.store; reserves = n.reserves; taps = n.taps; grants = m.grants; books = n.books; ticks = n.ticks }
   pub grants : open_in m.grants ≡ marked p serial (open_in n.grants)
-  pub count : m.grants.count ≡ n.grants.count
-  pub further : drop n.grants.count m.grants.rows ≡ drop n.grants.count n.grants.rows
   pub serials : m.grants.serials ≡ n.grants.serials
 
 module _ {S : Type 0} (G : Ghosts S) where

@@ -5,10 +5,11 @@
 --     turned_down m s call      why the call is turned down, if it is
 --     before_taps s loss in     the reserves as the taps find them, at a tick that told this loss and this intake
 --     after s e                 where a node that stood at s stands after the event e
-use Rattle.std.specs.Prelude.{ℕ, ◌+◌, ◌-◌, Bool, true, false, cond, not, ◌&&◌, ◌||◌, List, [], ◌∷◌, ◌++◌, length, Some, None, Option, ◌==◌, nat_le, nat_lt, slice_index_or, slice_set}
+use Rattle.std.specs.Prelude.{ℕ, ◌+◌, ◌-◌, Bool, true, false, cond, not, ◌&&◌, ◌||◌, List, [], ◌∷◌, ◌++◌, length, map, Some, None, Option, ◌==◌, nat_le, nat_lt, slice_index_or, slice_set}
+use Rattle.std.specs.List.{list_any}
 use Rattle.rates.specs.Amount.{bound}
 use Rattle.store.specs.Meaning.{Meaning, top, fault_from}
-use Rattle.tables.specs.Rows.{present, any, each}
+use Rattle.tables.specs.Rows.{present}
 use Rattle.tables.specs.Reserves.{ReserveRows, owns, level_at, parent_of, give, lower, return_to, charge_loss, is_parent}
 use Rattle.tables.specs.Taps.{TapRows, ends_at, stepped, after_moves}
 use Rattle.tables.specs.Grants.{reserve_of, fits_out, fits_parked, of_reserve, without, marked}
@@ -57,7 +58,7 @@ tests m s (close_reserve task number) =
     (not (between 1 number 31), OutOfRange)
     ∷ (not (present s.reserves number), Absent)
     ∷ (not (owns s.reserves task number), NotOwner)
-    ∷ (is_parent s.reserves number || any (ends_at number) s.taps || any (of_reserve number) s.grants, InUse)
+    ∷ (is_parent s.reserves number || list_any (ends_at number) s.taps || list_any (of_reserve number) s.grants, InUse)
     ∷ []
 tests m s (open_tap task tap source sink n d) =
     (not (nat_le tap 95 && nat_le source 31 && nat_le sink 31 && nat_le n 1000000 && between 1 d 65535), OutOfRange)
@@ -140,7 +141,7 @@ after s (recalled task serial amount) = with_grants s (marked false serial s.gra
 -- the taps move their figures in ascending number, and each remainder advances, whatever was moved
 after s (ticked harvest loss intake figures) = record {
   reserves = after_moves (before_taps s loss intake) s.taps figures;
-  taps = each stepped s.taps;
+  taps = map stepped s.taps;
   grants = s.grants;
   serials = s.serials;
   ticks = s.ticks + 1;

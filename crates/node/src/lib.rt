@@ -2,11 +2,16 @@
 #![tactic(auto)]
 
 mod denial;
+mod new_reserve;
+mod new_tap;
 mod node;
 mod slip;
 mod totals;
 
 pub use denial::{Denial, Overdraw};
+pub use new_reserve::NewReserve;
+pub use new_tap::NewTap;
 pub use node::Node;
 pub use slip::Slip;
+pub use tables::{ROOT, ROOT_TASK, TAPS};
 pub use totals::Totals;

@@ -9,17 +9,15 @@ ghost use Rattle.node.specs.Node.{standing_of, IsOut, Marked, Newborn, Extends, 
 ghost use Rattle.node.specs.Node.{granting, settling, parking, recalling, ticking, DrawnFor};
 
 use crate::denial::{Denial, Overdraw};
+use crate::new_reserve::NewReserve;
+use crate::new_tap::NewTap;
 use crate::slip::Slip;
 use crate::totals::Totals;
 use rates::G;
 use store::Store;
-use tables::{Books, Grants, Reserve, Reserves, Tap, Taps};
+use tables::{Books, Grants, ROOT, Reserve, Reserves, TAPS, Tap, Taps};
 
 mod checks;
-
-const ROOT: u8 = 0;
-
-const TAPS: usize = 96;
 
 #[derive(Drop)]
 pub struct Node<S> {
@@ -37,14 +35,11 @@ fn draw<S: Store>(store: &mut S, task: u8, reserve: u8, amount: u32) -> Result<(
     ensures drawn { DrawnFor (S.Store) task reserve amount store.old result store.new }
     ensures same { OnErr result (store.new ≡ store.old) }
 {
-    match store.draw(amount) {
-        Ok(()) => Ok(()),
-        Err(fault) => Err(Overdraw {
-            task,
-            reserve,
-            fault,
-        }),
-    }
+    store.draw(amount).map_err(|fault| Overdraw {
+        task,
+        reserve,
+        fault,
+    })
 }
 
 impl<S: Store> Node<S> {
@@ -64,29 +59,20 @@ impl<S: Store> Node<S> {
     }
 
     // Opens a reserve under a parent that the task owns; the amount goes from the parent to it.
-    pub fn open(
-        &mut self,
-        task: u8,
-        parent: u8,
-        number: u8,
-        owner: u8,
-        limit: u32,
-        amount: u32,
-    ) -> Result<(), Denial>
-        ensures step { Extends (S.Store) self.old (opening task parent number owner limit amount result) self.new }
+    pub fn open(&mut self, task: u8, reserve: NewReserve) -> Result<(), Denial>
+        ensures step { Extends (S.Store) self.old (opening task reserve.parent reserve.number reserve.owner reserve.limit reserve.amount result) self.new }
         ensures same { OnErr result (self.new ≡ self.old) }
         ensures store { self.new.store ≡ self.old.store }
     {
-        self.may_open(task, parent, number, limit, amount)?;
-        self.reserves.lower(parent, amount);
-        let level = amount;
+        self.may_open(task, reserve)?;
+        self.reserves.lower(reserve.parent, reserve.amount);
         self.reserves.open(
-            number,
+            reserve.number,
             Reserve {
-                owner,
-                parent,
-                limit,
-                level,
+                owner: reserve.owner,
+                parent: reserve.parent,
+                limit: reserve.limit,
+                level: reserve.amount,
             },
         );
         Ok(())
@@ -104,28 +90,20 @@ impl<S: Store> Node<S> {
         Ok(())
     }
 
-    // Opens a tap of n quanta in d ticks.
-    pub fn tap(
-        &mut self,
-        task: u8,
-        tap: u8,
-        source: u8,
-        sink: u8,
-        n: u32,
-        d: u32,
-    ) -> Result<(), Denial>
-        ensures step { Extends (S.Store) self.old (tapping task tap source sink n d result) self.new }
+    // Opens a tap from a source that the task owns.
+    pub fn tap(&mut self, task: u8, tap: NewTap) -> Result<(), Denial>
+        ensures step { Extends (S.Store) self.old (tapping task tap.number tap.source tap.sink tap.n tap.d result) self.new }
         ensures same { OnErr result (self.new ≡ self.old) }
         ensures store { self.new.store ≡ self.old.store }
     {
-        self.may_tap(task, tap, source, sink, n, d)?;
+        self.may_tap(task, tap)?;
         self.taps.open(
-            tap,
+            tap.number,
             Tap {
-                source,
-                sink,
-                n,
-                d,
+                source: tap.source,
+                sink: tap.sink,
+                n: tap.n,
+                d: tap.d,
                 r: 0,
             },
         );
@@ -138,7 +116,7 @@ impl<S: Store> Node<S> {
         ensures store { self.new.store ≡ self.old.store }
     {
         self.may_shut(task, tap)?;
-        self.taps.shut(tap);
+        self.taps.close(tap);
         Ok(())
     }
 
@@ -162,7 +140,7 @@ impl<S: Store> Node<S> {
         ensures judged { (m : Meaning) → turned_down m (standing_of self.old) (settlement slip.serial slip.amount used) ≡ verdict (settling slip used result) }
         ensures same { IfErr result (λ e. (e.1 ≡ slip) × (self.new ≡ self.old)) }
     {
-        let Some(grant) = self.out(slip.serial, slip.amount) else {
+        let Some(grant) = self.out(&slip) else {
             return Err((Denial::NoSuchGrant, slip));
         };
         if slip.amount < used {
@@ -185,7 +163,7 @@ impl<S: Store> Node<S> {
         ensures same { IfErr result (λ e. (e.1 ≡ slip) × (self.new ≡ self.old)) }
         ensures after { IfOk result (λ serial. (serial ≡ slip.serial) × Marked true serial self.old self.new) }
     {
-        let Some(_) = self.out(slip.serial, slip.amount) else {
+        let Some(_) = self.out(&slip) else {
             return Err((Denial::NoSuchGrant, slip));
         };
         let Slip { serial, amount: _ } = slip;
@@ -230,6 +208,7 @@ impl<S: Store> Node<S> {
         self.reserves.charge_loss(loss);
         let intake = self.store.charge(harvest);
         let _ = self.reserves.fill(ROOT, intake);
+        // The rules fix the order of the taps, and a loop with an index for it.
         for k in 0..TAPS {
             report[k] = self.taps.run(k, &mut self.reserves);
         }

@@ -1,4 +1,2 @@
-pub mod RowLaws
 pub mod ReserveLaws
-pub mod TapLaws
 pub mod GrantLaws

@@ -8,21 +8,18 @@
 --     without serial gs         the grants but for the one with this serial
 --     marked p serial gs        the grants, with the one with this serial parked (p true) or out (p false)
 --     open_in t                 the open grants that the table t holds
-use Rattle.std.specs.Prelude.{ℕ, Bool, false, cond, not, ◌&&◌, List, [], ◌∷◌, ◌++◌, length, take, Some, None, Option, ◌==◌, nat_lt}
+use Rattle.std.specs.Prelude.{ℕ, Bool, false, cond, not, ◌&&◌, List, [], ◌∷◌, ◌++◌, length, filter, map, Some, None, Option, ◌==◌, nat_lt}
+use Rattle.std.specs.Option.{option_or}
 use Rattle.tables.specs.declared.grants.Grant.{Grant}
 use Rattle.tables.specs.declared.grants.Grants.{Grants}
 
 abbrev pub open_in : Grants → List Grant
-open_in t = take t.count t.rows
-
-abbrev pub or_else : Option Grant → Option Grant → Option Grant
-or_else (Some g) o = Some g
-or_else None o = o
+open_in t = t.rows.items
 
 -- no two open grants of a node have one serial; were there two, this would be the newer
 abbrev pub grant_of : ℕ → List Grant → Option Grant
 grant_of serial [] = None
-grant_of serial (g ∷ gs) = or_else (grant_of serial gs) (cond (g.serial == serial) (Some g) None)
+grant_of serial (g ∷ gs) = option_or (grant_of serial gs) (cond (g.serial == serial) (Some g) None)
 
 abbrev pub reserve_in : Option Grant → ℕ
 reserve_in None = 0
@@ -59,16 +56,10 @@ abbrev pub added : Grant → List Grant → List Grant
 added g gs = cond (nat_lt (length gs) 64) (gs ++ g ∷ []) gs
 
 abbrev pub without : ℕ → List Grant → List Grant
-without serial [] = []
-without serial (g ∷ gs) = cond (g.serial == serial) (without serial gs) (g ∷ without serial gs)
+without serial gs = filter (λ g. not (g.serial == serial)) gs
 
 abbrev pub mark : Bool → ℕ → Grant → Grant
 mark p serial g = record { serial = g.serial; amount = g.amount; reserve = g.reserve; parked = cond (g.serial == serial) p g.parked }
 
 abbrev pub marked : Bool → ℕ → List Grant → List Grant
-marked p serial [] = []
-marked p serial (g ∷ gs) = mark p serial g ∷ marked p serial gs
-
-abbrev pub remarked : Bool → ℕ → Option Grant → Option Grant
-remarked p serial None = None
-remarked p serial (Some g) = Some (mark p serial g)
+marked p serial gs = map (mark p serial) gs

@@ -12,10 +12,10 @@
 --     fill_up rs i q               the same with the root filled up to its headroom, which in a sound node is no less
 --     charge_loss q rs             a loss, taken from the root first, then from reserves 31 down to 1
 --     is_parent rs i               reserve i is the parent of an open reserve
-use Rattle.std.specs.Prelude.{ℕ, zero, suc, ◌+◌, ◌-◌, min, Bool, false, List, [], ◌∷◌, replicate, Some, None, Option, ◌==◌, slice_index_or, slice_set}
+use Rattle.std.specs.Prelude.{ℕ, zero, suc, ◌+◌, ◌-◌, min, Bool, false, List, [], ◌∷◌, drop, replicate, Some, None, Option, ◌==◌, slice_index_or, slice_set}
+use Rattle.std.specs.List.{list_any}
 use Rattle.rates.specs.Amount.{bound}
 use Rattle.tables.specs.declared.reserves.Reserve.{Reserve}
-use Rattle.tables.specs.Rows.{any, tail}
 
 abbrev pub ReserveRows : Type 0
 ReserveRows = List (Option Reserve)
@@ -95,4 +95,4 @@ parent_is i None = false
 parent_is i (Some x) = x.parent == i
 
 abbrev pub is_parent : ReserveRows → ℕ → Bool
-is_parent rs i = any (parent_is i) (tail rs)
+is_parent rs i = list_any (parent_is i) (drop 1 rs)

@@ -4,9 +4,11 @@
 mod books;
 mod grants;
 mod reserves;
+mod table;
 mod taps;
 
 pub use books::Books;
-pub use grants::{Grant, Grants};
-pub use reserves::{Reserve, Reserves};
-pub use taps::{Tap, Taps};
+pub use grants::{GRANTS, Grant, Grants};
+pub use reserves::{LAST_RESERVE, ROOT, ROOT_TASK, Reserve, Reserves};
+pub use table::Table;
+pub use taps::{LAST_TAP, TAPS, Tap, Taps};

@@ -2,9 +2,17 @@
 ghost use Rattle.std.specs.Prelude.{◌≡◌, ◌+◌, ◌-◌, min, Some, None, slice_index_or, slice_set};
 ghost use Rattle.tables.specs.Reserves.{first_reserves, level_at, headroom, relevel, lower, fill, fill_up, charge_loss, parent_is, is_parent};
 
+use crate::table::Table;
 use rates::G;
 
-const RESERVES: usize = 32;
+pub const RESERVES: usize = 32;
+
+pub const LAST_RESERVE: u8 = 31;
+
+pub const ROOT: u8 = 0;
+
+// The owner of the root.
+pub const ROOT_TASK: u8 = 0;
 
 #[derive(Clone, Copy)]
 pub struct Reserve {
@@ -14,10 +22,7 @@ pub struct Reserve {
     pub level: u32,
 }
 
-#[derive(Drop)]
-pub struct Reserves {
-    rows: [Option<Reserve>; RESERVES],
-}
+pub type Reserves = Table<Reserve, RESERVES>;
 
 impl Reserve {
     // What it can still take.
@@ -53,60 +58,22 @@ impl Reserve {
 fn has_parent(row: Option<Reserve>, parent: u8) -> bool
     ensures result { result ≡ parent_is parent row }
 {
-    match row {
-        Some(reserve) => reserve.parent == parent,
-        None => false,
-    }
+    row.is_some_and(|reserve| reserve.parent == parent)
 }
 
-impl Reserves {
+impl Table<Reserve, RESERVES> {
     // Only the root, with what the store holds.
     pub fn new(held: u32) -> Reserves
         ensures result { result.rows ≡ first_reserves held }
     {
         let mut rows = [None; RESERVES];
-        rows[0] = Some(Reserve {
-            owner: 0,
-            parent: 0,
+        rows[usize::from(ROOT)] = Some(Reserve {
+            owner: ROOT_TASK,
+            parent: ROOT,
             limit: G,
             level: held,
         });
-        Reserves { rows }
-    }
-
-    fn at(&self, i: usize) -> Option<Reserve>
-        ensures result { result ≡ slice_index_or self.now.rows i None }
-    {
-        let rows = &self.rows[..];
-        if i < rows.len() { rows[i] } else { None }
-    }
-
-    fn put(&mut self, i: usize, row: Option<Reserve>)
-        ensures after { self.new.rows ≡ slice_set self.old.rows i row }
-    {
-        let rows = &mut self.rows[..];
-        if i < rows.len() {
-            rows[i] = row;
-        }
-    }
-
-    pub fn get(&self, i: u8) -> Option<Reserve>
-        ensures result { result ≡ slice_index_or self.now.rows i None }
-    {
-        self.at(usize::from(i))
-    }
-
-    // There is no place past 31.
-    pub fn open(&mut self, i: u8, reserve: Reserve)
-        ensures after { self.new.rows ≡ slice_set self.old.rows i (Some reserve) }
-    {
-        self.put(usize::from(i), Some(reserve));
-    }
-
-    pub fn close(&mut self, i: u8)
-        ensures after { self.new.rows ≡ slice_set self.old.rows i None }
-    {
-        self.put(usize::from(i), None);
+        Table { rows }
     }
 
     // q less at an open reserve, or as much of it as is there.
@@ -123,13 +90,11 @@ impl Reserves {
         ensures result { result ≡ q - headroom self.old.rows i }
         ensures after { self.new.rows ≡ fill self.old.rows i q }
     {
-        match self.get(i) {
-            Some(row) => {
-                self.open(i, row.filled(q));
-                q.saturating_sub(row.headroom())
-            }
-            None => q,
-        }
+        let Some(row) = self.get(i) else {
+            return q;
+        };
+        self.open(i, row.filled(q));
+        q.saturating_sub(row.headroom())
     }
 
     // q more at a reserve, and what is over at the root.
@@ -137,7 +102,7 @@ impl Reserves {
         ensures after { self.new.rows ≡ fill_up self.old.rows i q }
     {
         let over = self.fill(i, q);
-        let _ = self.fill(0, over);
+        let _ = self.fill(ROOT, over);
     }
 
     // Takes q from reserve i, as far as that goes: what is left to take.
@@ -145,20 +110,19 @@ impl Reserves {
         ensures result { result ≡ q - level_at self.old.rows i }
         ensures after { self.new.rows ≡ lower self.old.rows i (min q (level_at self.old.rows i)) }
     {
-        match self.at(i) {
-            Some(row) => {
-                self.put(i, Some(row.lowered(q.min(row.level))));
-                q.saturating_sub(row.level)
-            }
-            None => q,
-        }
+        let Some(row) = self.at(i) else {
+            return q;
+        };
+        self.put(i, Some(row.lowered(q.min(row.level))));
+        q.saturating_sub(row.level)
     }
 
-    // A loss, taken from the root first, then from the last reserve down to reserve 1.
+    // A loss, taken from the root first, then from the last reserve down to reserve 1. The rules fix this order, and a
+    // loop with an index for it.
     pub fn charge_loss(&mut self, q: u32)
         ensures after { self.new.rows ≡ charge_loss q self.old.rows }
     {
-        let mut left = self.charge(0, q);
+        let mut left = self.charge(usize::from(ROOT), q);
         for i in (1..RESERVES).rev() {
             left = self.charge(i, left);
         }
@@ -168,12 +132,6 @@ impl Reserves {
     pub fn is_parent(&self, i: u8) -> bool
         ensures result { result ≡ is_parent self.now.rows i }
     {
-        let rows = &self.rows[..];
-        for k in 1..rows.len() {
-            if has_parent(rows[k], i) {
-                return true;
-            }
-        }
-        false
+        self.rows.iter().skip(1).any(|row| has_parent(*row, i))
     }
 }

@@ -1,5 +1,5 @@
 // Why a node turns a call down: the tests of each call, in checking order.
-ghost use Rattle.std.specs.Prelude.{◌≡◌, ℕ, true, false, ◌&&◌, IfOk, Some, None, MatchOption, nat_le, slice_index_or};
+ghost use Rattle.std.specs.Prelude.{◌≡◌, true, false, ◌&&◌, IfOk, Some, None, MatchOption, nat_le, slice_index_or};
 ghost use Rattle.store.specs.Meaning.{Meaning};
 ghost use Rattle.tables.specs.Reserves.{owns as owner_of};
 ghost use Rattle.tables.specs.Grants.{open_in, grant_of, fits_out};
@@ -9,14 +9,11 @@ ghost use Rattle.node.specs.Node.{refusal_of, standing_of};
 
 use super::Node;
 use crate::denial::Denial;
+use crate::new_reserve::NewReserve;
+use crate::new_tap::NewTap;
+use crate::slip::Slip;
 use rates::{G, Rate};
-use tables::{Grant, Reserve};
-
-const LAST_RESERVE: u8 = 31;
-
-const LAST_TAP: u8 = 95;
-
-const MOST_GRANTS: usize = 64;
+use tables::{GRANTS, Grant, LAST_RESERVE, LAST_TAP, Reserve};
 
 // There is a rate n / d.
 fn is_rate(n: u32, d: u32) -> bool
@@ -29,28 +26,25 @@ impl<S> Node<S> {
     pub(super) fn owns(&self, task: u8, reserve: u8) -> bool
         ensures result { result ≡ owner_of self.now.reserves.rows task reserve }
     {
-        match self.reserves.get(reserve) {
-            Some(row) => row.owner == task,
-            None => false,
-        }
+        self.reserves
+            .get(reserve)
+            .is_some_and(|row| row.owner == task)
     }
 
-    pub(super) fn may_open(
-        &self,
-        task: u8,
-        parent: u8,
-        number: u8,
-        limit: u32,
-        amount: u32,
-    ) -> Result<(), Denial>
-        ensures judged { (m : Meaning) (owner : ℕ) → refusal_of result ≡ turned_down m (standing_of self.now) (open_reserve task parent number owner limit amount) }
+    pub(super) fn may_open(&self, task: u8, reserve: NewReserve) -> Result<(), Denial>
+        ensures judged { (m : Meaning) → refusal_of result ≡ turned_down m (standing_of self.now) (open_reserve task reserve.parent reserve.number reserve.owner reserve.limit reserve.amount) }
     {
+        let NewReserve {
+            parent,
+            number,
+            owner: _,
+            limit,
+            amount,
+        } = reserve;
         if !(parent <= LAST_RESERVE && 1 <= number && number <= LAST_RESERVE && limit <= G) {
             return Err(Denial::OutOfRange);
         }
-        let Some(from) = self.reserves.get(parent) else {
-            return Err(Denial::Absent);
-        };
+        let from = self.reserves.get(parent).ok_or(Denial::Absent)?;
         if self.reserves.get(number).is_some() {
             return Err(Denial::AlreadyOpen);
         }
@@ -78,9 +72,7 @@ impl<S> Node<S> {
         if !(1 <= number && number <= LAST_RESERVE) {
             return Err(Denial::OutOfRange);
         }
-        let Some(row) = self.reserves.get(number) else {
-            return Err(Denial::Absent);
-        };
+        let row = self.reserves.get(number).ok_or(Denial::Absent)?;
         if row.owner != task {
             return Err(Denial::NotOwner);
         }
@@ -93,24 +85,23 @@ impl<S> Node<S> {
         Ok(row)
     }
 
-    pub(super) fn may_tap(
-        &self,
-        task: u8,
-        tap: u8,
-        source: u8,
-        sink: u8,
-        n: u32,
-        d: u32,
-    ) -> Result<(), Denial>
-        ensures judged { (m : Meaning) → refusal_of result ≡ turned_down m (standing_of self.now) (open_tap task tap source sink n d) }
+    pub(super) fn may_tap(&self, task: u8, tap: NewTap) -> Result<(), Denial>
+        ensures judged { (m : Meaning) → refusal_of result ≡ turned_down m (standing_of self.now) (open_tap task tap.number tap.source tap.sink tap.n tap.d) }
     {
-        if !(tap <= LAST_TAP && source <= LAST_RESERVE && sink <= LAST_RESERVE && is_rate(n, d)) {
+        let NewTap {
+            number,
+            source,
+            sink,
+            n,
+            d,
+        } = tap;
+        if !(number <= LAST_TAP && source <= LAST_RESERVE && sink <= LAST_RESERVE && is_rate(n, d)) {
             return Err(Denial::OutOfRange);
         }
         if !(self.reserves.get(source).is_some() && self.reserves.get(sink).is_some()) {
             return Err(Denial::Absent);
         }
-        if self.taps.get(tap).is_some() {
+        if self.taps.get(number).is_some() {
             return Err(Denial::AlreadyOpen);
         }
         if !self.owns(task, source) {
@@ -128,9 +119,7 @@ impl<S> Node<S> {
         if tap > LAST_TAP {
             return Err(Denial::OutOfRange);
         }
-        let Some(row) = self.taps.get(tap) else {
-            return Err(Denial::Absent);
-        };
+        let row = self.taps.get(tap).ok_or(Denial::Absent)?;
         if !self.owns(task, row.source) {
             return Err(Denial::NotOwner);
         }
@@ -144,13 +133,11 @@ impl<S> Node<S> {
         if !(reserve <= LAST_RESERVE && 1 <= amount && amount <= G) {
             return Err(Denial::OutOfRange);
         }
-        let Some(row) = self.reserves.get(reserve) else {
-            return Err(Denial::Absent);
-        };
+        let row = self.reserves.get(reserve).ok_or(Denial::Absent)?;
         if row.owner != task {
             return Err(Denial::NotOwner);
         }
-        if self.grants.len() >= MOST_GRANTS {
+        if self.grants.len() >= GRANTS {
             return Err(Denial::TooManyGrants);
         }
         if self.grants.serials() >= G {
@@ -171,12 +158,8 @@ impl<S> Node<S> {
         ensures judged { (m : Meaning) → refusal_of result ≡ turned_down m (standing_of self.now) (recall task serial) }
         ensures found { IfOk result (λ g. grant_of serial (open_in self.now.grants) ≡ Some g) }
     {
-        let Some(grant) = self.grants.find(serial) else {
-            return Err(Denial::NoSuchGrant);
-        };
-        if !grant.parked {
-            return Err(Denial::NoSuchGrant);
-        }
+        let parked = self.grants.find(serial).filter(|grant| grant.parked);
+        let grant = parked.ok_or(Denial::NoSuchGrant)?;
         if !self.owns(task, grant.reserve) {
             return Err(Denial::NotOwner);
         }
@@ -184,14 +167,11 @@ impl<S> Node<S> {
     }
 
     // The grant of a slip, where it is out and has the slip's amount.
-    pub(super) fn out(&self, serial: u32, amount: u32) -> Option<Grant>
-        ensures result { MatchOption result (fits_out serial amount (open_in self.now.grants) ≡ false) (λ g. (fits_out serial amount (open_in self.now.grants) ≡ true) × (grant_of serial (open_in self.now.grants) ≡ Some g)) }
+    pub(super) fn out(&self, slip: &Slip) -> Option<Grant>
+        ensures result { MatchOption result (fits_out slip.now.serial slip.now.amount (open_in self.now.grants) ≡ false) (λ g. (fits_out slip.now.serial slip.now.amount (open_in self.now.grants) ≡ true) × (grant_of slip.now.serial (open_in self.now.grants) ≡ Some g)) }
     {
-        let grant = self.grants.find(serial)?;
-        if grant.amount == amount && !grant.parked {
-            Some(grant)
-        } else {
-            None
-        }
+        self.grants
+            .find(slip.serial)
+            .filter(|grant| grant.amount == slip.amount && !grant.parked)
     }
 }

@@ -20,5 +20,5 @@ returns g c = record {
       });
   judged = λ m. park_clear m (standing_of c.args.self.now) c.args.slip.serial c.args.slip.amount c.in-Some.ensures.result.0;
   same = tt;
-  after = (refl, record { others = refl; grants = c.mark.ensures.after; count = c.mark.ensures.count; further = c.mark.ensures.further; serials = c.mark.ensures.serials });
+  after = (refl, record { others = refl; grants = c.mark.ensures.after; serials = c.mark.ensures.serials });
 }

@@ -34,5 +34,5 @@ returns g c = record {
   same = tt;
   judged = λ m. sym (c.in_ok-grant.ensures.judged m);
   slip = (refl, recalled_out c.args.self.now.grants c.args.serial c.in_ok-grant.grant _ c.in_ok-grant.ensures.found c.mark.ensures.after);
-  after = record { others = refl; grants = c.mark.ensures.after; count = c.mark.ensures.count; further = c.mark.ensures.further; serials = c.mark.ensures.serials };
+  after = record { others = refl; grants = c.mark.ensures.after; serials = c.mark.ensures.serials };
 }

@@ -23,7 +23,7 @@ returns g c = record {
         places = 0;
         judged = sym (c.in_ok-may_shut.ensures.judged (store_means g.S.Store c.args.self.now));
         answers = refl;
-        standing = ap (with_taps (standing_of c.args.self.now)) c.shut.ensures.after;
+        standing = ap (with_taps (standing_of c.args.self.now)) c.close.ensures.after;
         books = refl;
       });
   same = tt;

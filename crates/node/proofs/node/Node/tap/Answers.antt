@@ -10,7 +10,7 @@ pub returns-in_err-may_tap : goal.returns-in_err-may_tap
 returns-in_err-may_tap g c =
     let p = err_from_is_err_and c.from_residual.result c.from_residual.ensures.1 in
     rw (p.1, p.2) (record {
-      step = turned_away g.S.Store c.args.self.now (open_tap c.args.task c.args.tap c.args.source c.args.sink c.args.n c.args.d) _
+      step = turned_away g.S.Store c.args.self.now (open_tap c.args.task c.args.tap.number c.args.tap.source c.args.tap.sink c.args.tap.n c.args.tap.d) _
           (sym (c.in_err-may_tap.ensures.judged (store_means g.S.Store c.args.self.now)));
       same = refl;
       store = refl;
@@ -19,7 +19,7 @@ returns-in_err-may_tap g c =
 pub returns : goal.returns
 returns g c = record {
   step = λ s. goes g.S.Store g.met.S.Store.means c.args.self.now _
-      (tapped c.args.task c.args.tap c.args.source c.args.sink c.args.n c.args.d) s s.store
+      (tapped c.args.task c.args.tap.number c.args.tap.source c.args.tap.sink c.args.tap.n c.args.tap.d) s s.store
       (record {
         places = 0;
         judged = sym (c.in_ok-may_tap.ensures.judged (store_means g.S.Store c.args.self.now));

@@ -1,10 +1,8 @@
-use Rattle.std.proofs.Common.{◌≡◌, ◌++◌, take, drop}
-use Rattle.tables.specs.Grants.{open_in, marked}
+use Rattle.std.proofs.Common.{◌≡◌, map, take, drop}
+use Rattle.tables.specs.Grants.{mark}
 use Rattle.tables.proofs.grants.Grants.mark.Given as goal
 
-abbrev pub invariant-loop-i : goal.invariant-loop-i
-invariant-loop-i l =
-    (open_in l.self ≡ marked l.parked l.serial (take l.i (open_in l.initial.self)) ++ drop l.i (open_in l.initial.self))
-    × (l.self.count ≡ l.initial.self.count)
-    × (l.self.serials ≡ l.initial.self.serials)
-    × (drop l.initial.self.count l.self.rows ≡ drop l.initial.self.count l.initial.self.rows)
+abbrev pub invariant-loop-grant : goal.invariant-loop-grant
+invariant-loop-grant l =
+    (take l.grant-index l.grant-items ≡ map (mark l.parked l.serial) (take l.grant-index l.initial.grant-items))
+    × (drop l.grant-index l.grant-items ≡ drop l.grant-index l.initial.grant-items)

@@ -1,6 +1,6 @@
 use Rattle.std.proofs.Common.{◌-◌, arith}
 use Rattle.tables.proofs.ReserveLaws.{charge_down_more, charge_down_none, charge_loss_root}
-use Rattle.tables.proofs.reserves.Reserves.charge_loss.Goals as goal
+use Rattle.tables.proofs.reserves.Table+Reserve+RESERVES.charge_loss.Goals as goal
 
 pub loop-i-preserved : goal.loop-i-preserved
 loop-i-preserved c = (omega arith, let h = charge_down_more (c.loop-i.i - 1) c.loop-i.left c.loop-i.self.rows (omega arith) in cc)
