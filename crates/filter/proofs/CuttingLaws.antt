@@ -1,49 +1,40 @@
 -- What one turn of the loops over a script does. Assumes nothing.
-use Rattle.std.proofs.Common.{◌≡◌, ℕ, zero, suc, ◌+◌, ◌-◌, ◌<◌, ◌≤◌, min, true, false, cond, eqb, List, [], ◌∷◌, ◌++◌, length, get_or, take, drop, IfOk, Some, None, Ok, Err, Option, Result, sym, refl, ap, ◌∙◌, subst, inl, inr, append_assoc, append-nil, add-one, arith, length-drop}
+use Rattle.std.proofs.Common.{◌≡◌, ℕ, zero, suc, ◌+◌, ◌-◌, ◌<◌, ◌≤◌, min, true, false, cond, eqb, List, [], ◌∷◌, ◌++◌, length, get_or, take, drop, IfOk, IfSome, Some, None, Ok, Err, Option, Result, sym, refl, ap, ◌∙◌, subst, inl, inr, append_assoc, append-nil, add-one, arith, length-drop}
 use Rattle.std.proofs.lemmas.List.{take_rest, length-take-le, get_or-take, get_or-drop}
+use Rattle.std.proofs.lemmas.Bool.{false_from_ne_true}
 use Rattle.std.proofs.lemmas.Bool.Decides.{eqb_tells, leb_tells}
-use Rattle.frame.specs.declared.line.Line.{Line}
-use Rattle.frame.specs.Line.{cut, kept, HasRead}
-use Rattle.frame.proofs.LineLaws.{cut_more, take_least}
+use Rattle.memchr.specs.Find.{Nowhere, Passes, IsFirstByte, is_byte}
+use Rattle.frame.specs.declared.prefix.Prefix.{Prefix}
+use Rattle.frame.specs.Prefix.{cut, kept, HasRead}
+use Rattle.frame.proofs.PrefixLaws.{begins_all, take_least}
 use Rattle.filter.specs.declared.script.Script.{Ghosts}
-use Rattle.filter.specs.Cutting.{further, place, Clear, lines_from, begun_from, Led, Fed}
+use Rattle.filter.specs.Cutting.{further, place, lines_from, begun_from, Led, Fed}
 
-other : (b : ℕ) (bs : List ℕ) → (b ≡ 10 → ⊥) → place (b ∷ bs) ≡ further (place bs)
-other b bs ne =
-    elim (eqb_tells b 10) [
-      | inl h ↦ absurd (ne h.1)
-      | inr h ↦ ap (λ t. cond t (Some 0) (further (place bs))) h.0
-    ]
+other : (b : ℕ) (bs : List ℕ) → eqb b 10 ≡ false → place (b ∷ bs) ≡ further (place bs)
+other b bs ne = ap (λ t. cond t (Some 0) (further (place bs))) ne
 
-pub place_at : (bs : List ℕ) (n : ℕ) → Clear bs n → n < length bs → get_or bs n 0 ≡ 10 → place bs ≡ Some n
-place_at [] n clear within feed = absurd (omega arith)
-place_at (b ∷ bs) zero clear within feed = ap (λ t. cond (eqb t 10) (Some 0) (further (place bs))) feed
-place_at (b ∷ bs) (suc n) clear within feed =
-    other b bs (clear 0 (omega arith))
-    ∙ ap further (place_at bs n (λ k h. clear (suc k) (omega arith)) (omega arith) feed)
+place_at : (bs : List ℕ) (n : ℕ) → Nowhere (Passes (is_byte 10) bs) 0 n → n < length bs → Passes (is_byte 10) bs n → place bs ≡ Some n
+place_at [] n before within feed = absurd (omega arith)
+place_at (b ∷ bs) zero before within feed = ap (λ t. cond t (Some 0) (further (place bs))) feed
+place_at (b ∷ bs) (suc n) before within feed =
+    other b bs (false_from_ne_true (eqb b 10) (before 0 (omega arith) (omega arith)))
+    ∙ ap further (place_at bs n (λ k l h. before (suc k) (omega arith) (omega arith)) (omega arith) feed)
     ∙ ap Some (add-one n)
 
-pub place_none : (bs : List ℕ) (n : ℕ) → Clear bs n → length bs ≤ n → place bs ≡ None
-place_none [] n clear past = refl
-place_none (b ∷ bs) zero clear past = absurd (omega arith)
-place_none (b ∷ bs) (suc n) clear past =
-    other b bs (clear 0 (omega arith)) ∙ ap further (place_none bs n (λ k h. clear (suc k) (omega arith)) (omega arith))
+place_none : (bs : List ℕ) → Nowhere (Passes (is_byte 10) bs) 0 (length bs) → place bs ≡ None
+place_none [] before = refl
+place_none (b ∷ bs) before =
+    other b bs (false_from_ne_true (eqb b 10) (before 0 (omega arith) (omega arith)))
+    ∙ ap further (place_none bs (λ k l h. before (suc k) (omega arith) (omega arith)))
 
--- a part without a line feed after such a front
-pub clear_more :
-    (bs : List ℕ) (n k : ℕ) → n + k ≤ length bs → Clear bs n
-    → Clear (take (n + k - n) (drop n bs)) (length (take (n + k - n) (drop n bs))) → Clear bs (n + k)
-clear_more bs n k within front part j h feed =
-    elim (leb_tells n j) [
-      | inr m ↦ front j m.1 feed
-      | inl m ↦
-          let same : n + (j - n) ≡ j = omega arith in
-          let less : j - n < n + k - n = omega arith in
-          let len : length (take (n + k - n) (drop n bs)) ≡ n + k - n =
-          length-take-le (n + k - n) (drop n bs) (let d = length-drop n bs in omega arith) in
-          part (j - n) (omega arith)
-          (get_or-take (n + k - n) (drop n bs) (j - n) 0 less ∙ get_or-drop n bs (j - n) 0 ∙ ap (λ i. get_or bs i 0) same ∙ feed)
-    ]
+-- what a search for a line feed answers
+pub place_is : (bs : List ℕ) (r : Option ℕ) → IsFirstByte (is_byte 10) bs r → r ≡ place bs
+place_is bs None h = sym (place_none bs h)
+place_is bs (Some n) h = sym (place_at bs n h.0.before h.0.high h.1)
+
+pub place_within : (bs : List ℕ) (r : Option ℕ) → IsFirstByte (is_byte 10) bs r → IfSome r (λ n. n < length bs)
+place_within bs None h = tt
+place_within bs (Some n) h = h.0.high
 
 -- a text up to its first line feed, and after it
 record Split (xs bs : List ℕ) (n : ℕ) : Type 0 where
@@ -78,7 +69,7 @@ split xs (b ∷ bs) n e =
           let p : place (b ∷ bs) ≡ Some 0 = ap (λ t. cond t (Some 0) (further (place bs))) h.0 in
           let z : 0 ≡ n = cc in subst (λ k. Split xs (b ∷ bs) k) z (split_here xs bs b h.0)
       | inr h ↦
-          let m = before (place bs) n (sym (other b bs h.1) ∙ e) in
+          let m = before (place bs) n (sym (other b bs h.0) ∙ e) in
           subst (λ k. Split xs (b ∷ bs) k) (sym m.2) (split_on xs bs b m.0 h.0 (split (xs ++ b ∷ []) bs m.0 m.1))
     ]
 
@@ -99,7 +90,7 @@ unsplit xs (b ∷ bs) e =
           let p : place (b ∷ bs) ≡ Some 0 = ap (λ t. cond t (Some 0) (further (place bs))) h.0 in
           let z : ◌≡◌ {A = ℕ} 0 1 = cc in absurd (omega arith)
       | inr h ↦
-          let u = unsplit (xs ++ b ∷ []) bs (nothing (place bs) (sym (other b bs h.1) ∙ e)) in
+          let u = unsplit (xs ++ b ∷ []) bs (nothing (place bs) (sym (other b bs h.0) ∙ e)) in
           record {
             none = ap (λ t. cond t (xs ∷ lines_from [] bs) (lines_from (xs ++ b ∷ []) bs)) h.0 ∙ u.none;
             whole = ap (λ t. cond t (begun_from [] bs) (begun_from (xs ++ b ∷ []) bs)) h.0 ∙ u.whole ∙ append_assoc xs (b ∷ []) bs;
@@ -133,7 +124,7 @@ module _ {S : Type 0} (G : Ghosts S) where
   led_more s (x ∷ ls) m s' l p h = (p.0, p.1, led_more p.0 ls m s' l p.2 h)
 
   -- what holds before each turn: some lines have been handed over, and ys has been read of the next
-  pub record Feeding (s : S) (xs bs : List ℕ) (s' : S) (l : Line) (rest : List ℕ) : Type 0 where
+  pub record Feeding (s : S) (xs bs : List ℕ) (s' : S) (l : Prefix 81) (rest : List ℕ) : Type 0 where
     pub ys : List ℕ
     pub done : List (List ℕ)
     pub read : HasRead ys l
@@ -141,19 +132,19 @@ module _ {S : Type 0} (G : Ghosts S) where
     pub lines_so : lines_from xs bs ≡ done ++ lines_from ys rest
     pub begun_so : begun_from xs bs ≡ begun_from ys rest
 
-  pub feeding_start : (s : S) (xs bs : List ℕ) (l : Line) → HasRead xs l → Feeding s xs bs s l bs
+  pub feeding_start : (s : S) (xs bs : List ℕ) (l : Prefix 81) → HasRead xs l → Feeding s xs bs s l bs
   feeding_start s xs bs l r = record { ys = xs; done = []; read = r; led_so = refl; lines_so = refl; begun_so = refl }
 
   pub feeding_more :
-      (s : S) (xs bs : List ℕ) (s' : S) (l : Line) (rest : List ℕ) → Feeding s xs bs s' l rest → (n : ℕ) → place rest ≡ Some n
-      → (s'' : S) → G.hears s' (cut (kept l ++ take (n - 0) rest)) s'' → (l' : Line) → kept l' ≡ []
+      (s : S) (xs bs : List ℕ) (s' : S) (l : Prefix 81) (rest : List ℕ) → Feeding s xs bs s' l rest → (n : ℕ) → place rest ≡ Some n
+      → (s'' : S) → G.hears s' (cut (kept l ++ take (n - 0) rest)) s'' → (l' : Prefix 81) → kept l' ≡ []
       → Feeding s xs bs s'' l' (take (length rest - (n + 1)) (drop (n + 1) rest))
   feeding_more s xs bs s' l rest f n e s'' h l' fresh =
       let sp : Split f.ys rest n = split f.ys rest n e in
       let z : n - 0 ≡ n = omega arith in
       let line : List ℕ = f.ys ++ take n rest in
       let heard : cut (kept l ++ take (n - 0) rest) ≡ cut line =
-      cut_more l f.ys (take (n - 0) rest) f.read ∙ ap (λ k. cut (f.ys ++ take k rest)) z in
+      begins_all 81 l (cut (kept l ++ take (n - 0) rest)) (take (n - 0) rest) refl f.ys f.read ∙ ap (λ k. cut (f.ys ++ take k rest)) z in
       let left : take (length rest - (n + 1)) (drop (n + 1) rest) ≡ drop (suc n) rest =
       take_rest rest (n + 1) ∙ ap (λ k. drop k rest) (add-one n) in
       record {
@@ -169,12 +160,12 @@ module _ {S : Type 0} (G : Ghosts S) where
       }
 
   pub feeding_end :
-      (s : S) (xs bs : List ℕ) (s' : S) (l : Line) (rest : List ℕ) → Feeding s xs bs s' l rest → place rest ≡ None
-      → (l' : Line) → kept l' ≡ cut (kept l ++ rest) → Fed G s xs bs s' l'
+      (s : S) (xs bs : List ℕ) (s' : S) (l : Prefix 81) (rest : List ℕ) → Feeding s xs bs s' l rest → place rest ≡ None
+      → (l' : Prefix 81) → kept l' ≡ cut (kept l ++ rest) → Fed G s xs bs s' l'
   feeding_end s xs bs s' l rest f e l' k =
       let u : Unsplit f.ys rest = unsplit f.ys rest e in
       let all : lines_from xs bs ≡ f.done = f.lines_so ∙ ap (λ t. f.done ++ t) u.none ∙ append-nil f.done in
       record {
         led = subst (λ ls. Led G s ls s') (sym all) f.led_so;
-        begun = k ∙ cut_more l f.ys rest f.read ∙ ap cut (sym (f.begun_so ∙ u.whole));
+        begun = begins_all 81 l (kept l') rest k f.ys f.read ∙ ap cut (sym (f.begun_so ∙ u.whole));
       }

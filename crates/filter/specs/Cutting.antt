@@ -1,13 +1,12 @@
 -- A script, cut into lines at its line feeds and handed over line by line. Assumes nothing.
 --     place bs               the place of the first line feed in bs
---     Clear bs n             there is none among the first n bytes of bs
 --     lines_from xs bs       the lines that end in bs, of which the first begins with xs
 --     begun_from xs bs       what has then been read of the next
 --     Led G s ls s'          the lines ls, the first 81 bytes of each, lead one after the other from s to s'
 --     Fed G s xs bs s' l     where xs had been read of a line, the lines that end in bs lead from s to s', and l keeps what has been read of the next
-use Rattle.std.specs.Prelude.{◌≡◌, ℕ, ◌+◌, ◌<◌, cond, List, [], ◌∷◌, ◌++◌, Some, None, Option, ◌==◌, ◌≢◌, slice_index}
-use Rattle.frame.specs.declared.line.Line.{Line}
-use Rattle.frame.specs.Line.{cut, HasRead}
+use Rattle.std.specs.Prelude.{◌≡◌, ℕ, ◌+◌, cond, List, [], ◌∷◌, ◌++◌, Some, None, Option, ◌==◌}
+use Rattle.frame.specs.declared.prefix.Prefix.{Prefix}
+use Rattle.frame.specs.Prefix.{cut, HasRead}
 use Rattle.filter.specs.declared.script.Script.{Ghosts}
 
 abbrev pub further : Option ℕ → Option ℕ
@@ -18,9 +17,6 @@ further None = None
 abbrev pub place : List ℕ → Option ℕ
 place [] = None
 place (b ∷ bs) = cond (b == 10) (Some 0) (further (place bs))
-
-abbrev pub Clear : List ℕ → ℕ → Type 0
-Clear bs n = (k : ℕ) → k < n → slice_index bs k ≢ 10
 
 abbrev pub lines_from : List ℕ → List ℕ → List (List ℕ)
 lines_from xs [] = []
@@ -35,6 +31,6 @@ module _ {S : Type 0} (G : Ghosts S) where
   Led s [] s' = s' ≡ s
   Led s (l ∷ ls) s' = (m : S) × G.hears s (cut l) m × Led m ls s'
 
-  pub record Fed (s : S) (xs bs : List ℕ) (s' : S) (l : Line) : Type 0 where
+  pub record Fed (s : S) (xs bs : List ℕ) (s' : S) (l : Prefix 81) : Type 0 where
     pub led : Led s (lines_from xs bs) s'
     pub begun : HasRead (begun_from xs bs) l

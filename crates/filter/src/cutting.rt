@@ -1,70 +1,21 @@
 // How a script is cut into lines.
-ghost use Rattle.std.specs.Prelude.{◌≡◌, ℕ, ◌<◌, ◌≤◌, false, List, [], ◌++◌, length, IfSome, OnOk};
-ghost use Rattle.frame.specs.Line.{kept, cut, HasRead};
-ghost use Rattle.filter.specs.Cutting.{place, Clear, Fed};
+ghost use Rattle.std.specs.Prelude.{◌≡◌, ℕ, ◌<◌, List, [], ◌++◌, length, IfSome, OnOk};
+ghost use Rattle.frame.specs.Prefix.{kept, cut, HasRead};
+ghost use Rattle.filter.specs.Cutting.{place, Fed};
 
 use crate::script::Script;
 use frame::Line;
+use memchr::memchr;
 use std::io;
 
 const KEPT: usize = 81;
 
-const BLOCK: usize = 32;
-
-// Whether a line feed is among these bytes.
-fn has_feed(bytes: &[u8]) -> bool
-    ensures clear { result ≡ false → Clear bytes.now (length bytes.now) }
-{
-    let mut found = false;
-    for b in bytes {
-        found |= *b == b'\n';
-    }
-    found
-}
-
-// Passes over a block of bytes from a place on, if there are so many and no line feed is among them.
-fn pass(bytes: &[u8], at: usize, block: usize) -> usize
-    requires within { at ≤ length bytes.now }
-    requires clear { Clear bytes.now at }
-    ensures within { result ≤ length bytes.now }
-    ensures clear { Clear bytes.now result }
-{
-    if bytes.len() - at >= block && !has_feed(&bytes[at..at + block]) {
-        at + block
-    } else {
-        at
-    }
-}
-
-// Passes over whole blocks that have no line feed.
-fn pass_blocks(bytes: &[u8]) -> usize
-    ensures within { result ≤ length bytes.now }
-    ensures clear { Clear bytes.now result }
-{
-    let mut at = 0;
-    let mut next = pass(bytes, 0, BLOCK);
-    while at < next {
-        at = next;
-        next = pass(bytes, at, BLOCK);
-    }
-    at
-}
-
-// The place of the first line feed: blocks are passed over, ever shorter ones, and then single bytes.
+// The place of the first line feed.
 pub fn line_end(bytes: &[u8]) -> Option<usize>
     ensures result { result ≡ place bytes.now }
     ensures within { IfSome result (λ n. n < length bytes.now) }
 {
-    let halves = pass(bytes, pass_blocks(bytes), BLOCK / 2);
-    let quarters = pass(bytes, halves, BLOCK / 4);
-    let mut at = pass(bytes, quarters, BLOCK / 8);
-    while at < bytes.len() {
-        if bytes[at] == b'\n' {
-            return Some(at);
-        }
-        at += 1;
-    }
-    None
+    memchr(b'\n', bytes)
 }
 
 // Hands over the line that ends with these bytes, and begins the next.

@@ -1,5 +1,5 @@
 use Rattle.std.proofs.Common.{ℕ, ◌≤◌, List, length}
-use Rattle.frame.specs.Line.{HasRead}
+use Rattle.frame.specs.Prefix.{HasRead}
 use Rattle.filter.proofs.CuttingLaws.{Feeding}
 use Rattle.filter.proofs.cutting.feed.Given as goal
 

@@ -1,5 +1,5 @@
 use Rattle.std.proofs.Common.{◌≡◌, [], rules}
-use Rattle.frame.specs.Line.{kept}
+use Rattle.frame.specs.Prefix.{kept}
 use Rattle.filter.proofs.CuttingLaws.{fresh_line, made_so, hears_cut}
 use Rattle.filter.proofs.cutting.finish.Goals as goal
 
