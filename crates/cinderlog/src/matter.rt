@@ -1,5 +1,6 @@
 // What a frame is about, what it asks to be done, and who asks.
 use frame::Frame;
+use node::{NewReserve, NewTap};
 use std::fmt;
 
 fn tell_layers<W: fmt::Write>(
@@ -22,17 +23,31 @@ fn tell_cells<W: fmt::Write>(f: &mut fmt::Formatter<W>, capacities: [u32; 3]) ->
     )
 }
 
-fn tell_reserve<W: fmt::Write>(
-    f: &mut fmt::Formatter<W>,
-    number: u8,
-    owner: u8,
-    parent: u8,
-    limit: u32,
-    amount: u32,
-) -> fmt::Result {
+fn tell_reserve<W: fmt::Write>(f: &mut fmt::Formatter<W>, reserve: NewReserve) -> fmt::Result {
+    let NewReserve {
+        parent,
+        number,
+        owner,
+        limit,
+        amount,
+    } = reserve;
     write!(
         f,
         "reserve {number} for task {owner} under {parent}, limit {limit}, with {amount}"
+    )
+}
+
+fn tell_tap<W: fmt::Write>(f: &mut fmt::Formatter<W>, tap: NewTap) -> fmt::Result {
+    let NewTap {
+        number,
+        source,
+        sink,
+        n,
+        d,
+    } = tap;
+    write!(
+        f,
+        "tap {number} from {source} to {sink}, rate {n}/{d} a tick"
     )
 }
 
@@ -50,23 +65,9 @@ impl fmt::Display for Matter {
                 part,
             } => tell_layers(f, capacity, floor, part),
             Frame::Bank { capacities } => tell_cells(f, capacities),
-            Frame::Open {
-                parent,
-                number,
-                owner,
-                limit,
-                amount,
-                ..
-            } => tell_reserve(f, number, owner, parent, limit, amount),
+            Frame::Open { reserve, .. } => tell_reserve(f, reserve),
             Frame::Close { number, .. } => write!(f, "reserve {number}"),
-            Frame::Tap {
-                tap,
-                source,
-                sink,
-                n,
-                d,
-                ..
-            } => write!(f, "tap {tap} from {source} to {sink}, rate {n}/{d} a tick"),
+            Frame::Tap { tap, .. } => tell_tap(f, tap),
             Frame::Shut { tap, .. } => write!(f, "tap {tap}"),
             Frame::Grant {
                 reserve,

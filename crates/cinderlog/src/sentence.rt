@@ -2,7 +2,7 @@
 use crate::balance::Balance;
 use crate::matter::{Asked, Done, Matter, asker};
 use frame::{Answer, Frame, FrameFault};
-use node::Denial;
+use node::{Denial, NewReserve};
 use std::fmt;
 
 // A refusal of a frame.
@@ -14,7 +14,10 @@ impl fmt::Display for Refusal {
         let matter = Matter(self.0);
         match (self.0, self.1) {
             (
-                Frame::Open { number, amount, .. },
+                Frame::Open {
+                    reserve: NewReserve { number, amount, .. },
+                    ..
+                },
                 FrameFault::Denied(
                     Denial::LevelTooLow {
                         task,

@@ -56,6 +56,15 @@ impl Session {
         reply
     }
 
+    // Counts an accepted tick.
+    fn count_tick(&mut self, reply: Result<Answer, FrameFault>)
+        ensures same { (self.new.simulator ≡ self.old.simulator) × (self.new.recount ≡ self.old.recount) }
+    {
+        if let Ok(Answer::Ticked { .. }) = reply {
+            self.ticks = self.ticks.saturating_add(1);
+        }
+    }
+
     // The totals of the node, where one stands.
     fn tell_totals(&mut self) -> io::Result<()> {
         match self.simulator.reply(b"09") {
@@ -73,9 +82,7 @@ impl Script for Session {
 
     fn line(&mut self, line: &[u8]) -> io::Result<()> {
         let reply = self.reply(line);
-        if let Ok(Answer::Ticked { .. }) = reply {
-            self.ticks = self.ticks.saturating_add(1);
-        }
+        self.count_tick(reply);
         let number = self.recount.lines();
         let ticks = self.ticks;
         match frame_of(line) {

@@ -21,7 +21,7 @@ sized fs n f = cond (length fs == n) (Ok f) (Err UnknownFrame)
 
 -- task, parent, number, owner, limit, amount
 abbrev pub open_of : List ℕ → Result Frame FrameFault
-open_of fs = sized fs 12 (Open (slice_index fs 0) (slice_index fs 1) (slice_index fs 2) (slice_index fs 3) (four fs 4) (four fs 8))
+open_of fs = sized fs 12 (Open (slice_index fs 0) (record { parent = slice_index fs 1; number = slice_index fs 2; owner = slice_index fs 3; limit = four fs 4; amount = four fs 8 }))
 
 -- task, number
 abbrev pub close_of : List ℕ → Result Frame FrameFault
@@ -29,7 +29,7 @@ close_of fs = sized fs 2 (Close (slice_index fs 0) (slice_index fs 1))
 
 -- task, tap, source, sink, n, d
 abbrev pub tap_of : List ℕ → Result Frame FrameFault
-tap_of fs = sized fs 10 (Tap (slice_index fs 0) (slice_index fs 1) (slice_index fs 2) (slice_index fs 3) (four fs 4) (two fs 8))
+tap_of fs = sized fs 10 (Tap (slice_index fs 0) (record { number = slice_index fs 1; source = slice_index fs 2; sink = slice_index fs 3; n = four fs 4; d = two fs 8 }))
 
 -- task, tap
 abbrev pub shut_of : List ℕ → Result Frame FrameFault

@@ -3,6 +3,7 @@ ghost use Rattle.std.specs.Prelude.{◌≡◌};
 ghost use Rattle.frame.specs.Frame.{frame_of_lem, open_of, close_of, tap_of, shut_of, grant_of, settle_of, tick_of, audit_of, capacitor_of, layered_of, bank_of};
 
 use crate::fault::FrameFault;
+use node::{NewReserve, NewTap};
 
 #[derive(Clone, Copy)]
 pub enum Frame {
@@ -23,25 +24,17 @@ pub enum Frame {
     // A reserve opened under its parent.
     Open {
         task: u8,
-        parent: u8,
-        number: u8,
-        owner: u8,
-        limit: u32,
-        amount: u32,
+        reserve: NewReserve,
     },
     // A reserve closed.
     Close {
         task: u8,
         number: u8,
     },
-    // A tap of n quanta in d ticks opened.
+    // A tap opened.
     Tap {
         task: u8,
-        tap: u8,
-        source: u8,
-        sink: u8,
-        n: u32,
-        d: u16,
+        tap: NewTap,
     },
     // A tap shut.
     Shut {
@@ -113,11 +106,13 @@ fn opening(fields: &[u8]) -> Result<Frame, FrameFault>
     match fields {
         [task, parent, number, owner, l3, l2, l1, l0, a3, a2, a1, a0] => Ok(Frame::Open {
             task: *task,
-            parent: *parent,
-            number: *number,
-            owner: *owner,
-            limit: u32::from_be_bytes([*l3, *l2, *l1, *l0]),
-            amount: u32::from_be_bytes([*a3, *a2, *a1, *a0]),
+            reserve: NewReserve {
+                parent: *parent,
+                number: *number,
+                owner: *owner,
+                limit: u32::from_be_bytes([*l3, *l2, *l1, *l0]),
+                amount: u32::from_be_bytes([*a3, *a2, *a1, *a0]),
+            },
         }),
         _ => Err(FrameFault::UnknownFrame),
     }
@@ -141,11 +136,13 @@ fn tap(fields: &[u8]) -> Result<Frame, FrameFault>
     match fields {
         [task, number, source, sink, n3, n2, n1, n0, d1, d0] => Ok(Frame::Tap {
             task: *task,
-            tap: *number,
-            source: *source,
-            sink: *sink,
-            n: u32::from_be_bytes([*n3, *n2, *n1, *n0]),
-            d: u16::from_be_bytes([*d1, *d0]),
+            tap: NewTap {
+                number: *number,
+                source: *source,
+                sink: *sink,
+                n: u32::from_be_bytes([*n3, *n2, *n1, *n0]),
+                d: u32::from(u16::from_be_bytes([*d1, *d0])),
+            },
         }),
         _ => Err(FrameFault::UnknownFrame),
     }

@@ -40,9 +40,9 @@ module _ {S : Type 0} (G : Ghosts S) where
   serving n m (CapacitorFrame c) r p at = stays n m p.1 at
   serving n m (LayeredFrame c f q) r p at = stays n m p.1 at
   serving n m (BankFrame cs) r p at = stays n m p.1 at
-  serving n m (Open t a i o l q) r p at = on n m _ p.1 at
+  serving n m (Open t i) r p at = on n m _ p.1 at
   serving n m (Close t i) r p at = on n m _ p.1 at
-  serving n m (Tap t k a b q d) r p at = on n m _ p.1 at
+  serving n m (Tap t k) r p at = on n m _ p.1 at
   serving n m (Shut t k) r p at = on n m _ p.1 at
   serving n m (Grant t i q) r p at = parks p.1 m p.0 r p.3 (on n p.1 _ p.2 at)
   serving n m (Settle t s u) r p at = settles p.1 m s p.0 u r p.3 (on n p.1 _ p.2 at)
@@ -73,9 +73,9 @@ first : (f : Frame) (made : Result Simulator FrameFault) (r : Result Answer Fram
 first (CapacitorFrame c) made r s' b stands = building capacitor_store Single (λ n x. x) (new_capacitor c) made r s' b stands
 first (LayeredFrame c f p) made r s' b stands = building layered_store Layered (λ n x. x) (layered_of c f p) made r s' b stands
 first (BankFrame cs) made r s' b stands = building bank_store Cells (λ n x. x) (new_bank cs) made r s' b stands
-first (Open t a i o l q) made r s' b stands = nothing made _ r s' b stands
+first (Open t i) made r s' b stands = nothing made _ r s' b stands
 first (Close t i) made r s' b stands = nothing made _ r s' b stands
-first (Tap t k a c q d) made r s' b stands = nothing made _ r s' b stands
+first (Tap t k) made r s' b stands = nothing made _ r s' b stands
 first (Shut t k) made r s' b stands = nothing made _ r s' b stands
 first (Grant t i q) made r s' b stands = nothing made _ r s' b stands
 first (Settle t s u) made r s' b stands = nothing made _ r s' b stands

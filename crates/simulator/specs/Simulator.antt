@@ -76,9 +76,9 @@ abbrev pub Built : Frame → Result Simulator FrameFault → Type 0
 Built (CapacitorFrame c) r = Builds capacitor_store Single (new_capacitor c) r
 Built (LayeredFrame c f p) r = Builds layered_store Layered (layered_of c f p) r
 Built (BankFrame cs) r = Builds bank_store Cells (new_bank cs) r
-Built (Open t p i o l q) r = r ≡ Err OutOfTurn
+Built (Open t x) r = r ≡ Err OutOfTurn
 Built (Close t i) r = r ≡ Err OutOfTurn
-Built (Tap t k a b p d) r = r ≡ Err OutOfTurn
+Built (Tap t x) r = r ≡ Err OutOfTurn
 Built (Shut t k) r = r ≡ Err OutOfTurn
 Built (Grant t i q) r = r ≡ Err OutOfTurn
 Built (Settle t s u) r = r ≡ Err OutOfTurn
@@ -126,9 +126,9 @@ module _ {S : Type 0} (G : Ghosts S) where
   ServesOn n (CapacitorFrame c) r m = Turned n r m
   ServesOn n (LayeredFrame c f p) r m = Turned n r m
   ServesOn n (BankFrame cs) r m = Turned n r m
-  ServesOn n (Open t p i o l q) r m = (x : Result (Unit {0}) Denial) × Extends G n (opening t p i o l q x) m × (m.store ≡ n.store) × (r ≡ done x)
+  ServesOn n (Open t i) r m = (x : Result (Unit {0}) Denial) × Extends G n (opening t i.parent i.number i.owner i.limit i.amount x) m × (m.store ≡ n.store) × (r ≡ done x)
   ServesOn n (Close t i) r m = (x : Result (Unit {0}) Denial) × Extends G n (closing t i x) m × (m.store ≡ n.store) × (r ≡ done x)
-  ServesOn n (Tap t k a b p d) r m = (x : Result (Unit {0}) Denial) × Extends G n (tapping t k a b p d x) m × (m.store ≡ n.store) × (r ≡ done x)
+  ServesOn n (Tap t k) r m = (x : Result (Unit {0}) Denial) × Extends G n (tapping t k.number k.source k.sink k.n k.d x) m × (m.store ≡ n.store) × (r ≡ done x)
   ServesOn n (Shut t k) r m = (x : Result (Unit {0}) Denial) × Extends G n (shutting t k x) m × (m.store ≡ n.store) × (r ≡ done x)
   ServesOn n (Grant t i q) r m = Grants n t i q r m
   ServesOn n (Settle t s u) r m = Settles n t s u r m

@@ -4,10 +4,8 @@ ghost use Rattle.node.specs.Node.{SoundNode};
 ghost use Rattle.simulator.specs.Simulator.{Grants, Settles, ServesOn};
 
 use frame::{Answer, Frame, FrameFault};
-use node::Node;
+use node::{Node, TAPS};
 use store::Store;
-
-const TAPS: usize = 96;
 
 // A grant whose slip is parked: a slip that was just given is out, so its parking is not refused.
 fn grant<S: Store>(
@@ -51,30 +49,16 @@ pub(crate) fn serve<S: Store>(node: &mut Node<S>, frame: Frame) -> Result<Answer
     ensures same { SoundNode (S.Store) node.old → OnErr result (node.new ≡ node.old) }
 {
     match frame {
-        Frame::Open {
-            task,
-            parent,
-            number,
-            owner,
-            limit,
-            amount,
-        } => {
-            node.open(task, parent, number, owner, limit, amount)?;
+        Frame::Open { task, reserve } => {
+            node.open(task, reserve)?;
             Ok(Answer::Done)
         }
         Frame::Close { task, number } => {
             node.close(task, number)?;
             Ok(Answer::Done)
         }
-        Frame::Tap {
-            task,
-            tap,
-            source,
-            sink,
-            n,
-            d,
-        } => {
-            node.tap(task, tap, source, sink, n, u32::from(d))?;
+        Frame::Tap { task, tap } => {
+            node.tap(task, tap)?;
             Ok(Answer::Done)
         }
         Frame::Shut { task, tap } => {
