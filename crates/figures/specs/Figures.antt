@@ -7,8 +7,10 @@ use Rattle.store.specs.declared.capacitor.Capacitor.{Capacitor}
 use Rattle.store.specs.declared.fault.Fault.{Fault}
 use Rattle.store.specs.Meaning.{Meaning, fault_from}
 use Rattle.store.specs.Capacitor.{capacitor_means, capacitor_store}
-use Rattle.store.specs.Bank.{filled, emptied, with_none}
+use Rattle.store.specs.Cell.{cell}
+use Rattle.store.specs.Bank.{filled, emptied, empty_cells}
 use Rattle.layers.specs.declared.floor.Floor.{Floor}
+use Rattle.layers.specs.declared.layered.Layered.{Layered}
 use Rattle.layers.specs.Floor.{floor_means}
 use Rattle.layers.specs.Leakage.{leak_of, kept}
 use Rattle.tables.specs.declared.reserves.Reserve.{Reserve}
@@ -22,11 +24,11 @@ dues zero n d r = []
 dues (suc k) n d r = due n d r ∷ dues k n d (remainder n d r)
 
 abbrev pub holding : ℕ → ℕ → Capacitor
-holding capacity held = record { capacity = capacity; held = held }
+holding capacity held = record { cell = cell capacity held }
 
 -- a floor of 4 over a capacitor that holds 6
-abbrev pub floored : Floor Capacitor
-floored = record { below = holding 10 6; amount = 4 }
+abbrev pub floored : Layered Capacitor Floor
+floored = record { below = holding 10 6; layer = record { amount = 4 } }
 
 abbrev pub fault_at : ℕ → Fault
 fault_at q = fault_from 0 q (floor_means capacitor_store floored).stages
@@ -46,8 +48,8 @@ pub record Figures : Type 0 where
   pub first_leak : (leak_of 25 1000 0 ≡ 2) × (kept 25 1000 0 ≡ 5000) × (25 - leak_of 25 1000 0 ≡ 23)
   pub second_leak : (leak_of 23 1000 5000 ≡ 2) × (kept 23 1000 5000 ≡ 8000) × (23 - leak_of 23 1000 5000 ≡ 21)
   -- cells of 5, 3 and 2: a charge of 7, and then a draw of 3
-  pub cells_charged : filled 7 (with_none (5 ∷ 3 ∷ 2 ∷ [])) (with_none (0 ∷ 0 ∷ 0 ∷ [])) ≡ with_none (5 ∷ 2 ∷ 0 ∷ [])
-  pub cells_drawn : emptied 3 (with_none (5 ∷ 2 ∷ 0 ∷ [])) ≡ with_none (4 ∷ 0 ∷ 0 ∷ [])
+  pub cells_charged : filled 7 (empty_cells (5 ∷ 3 ∷ 2 ∷ [])) ≡ cell 5 5 ∷ cell 3 2 ∷ cell 2 0 ∷ []
+  pub cells_drawn : emptied 3 (cell 5 5 ∷ cell 3 2 ∷ cell 2 0 ∷ []) ≡ cell 5 4 ∷ cell 3 0 ∷ cell 2 0 ∷ []
   -- a draw that the floor refuses, and one that the capacitor does: R is 82, C is 67
   pub faults : (fault_at 3 ≡ record { height = 1; kind = 82; deficit = 1 }) × (fault_at 7 ≡ record { height = 0; kind = 67; deficit = 1 })
   -- a grant of 5 settled with 2 used, where a capacitor of 10 holds 9: 2 are lost, 1 returns, 10 are held

@@ -5,27 +5,32 @@
 --     filled q b           the battery b with q more, as far as it has room
 --     emptied q b          the battery b with q less, as far as it holds that
 --     battery_store        its members as a store
-use Rattle.std.specs.Prelude.{ℕ, ◌+◌, ◌-◌, ◌≤◌, min, cond, [], ◌∷◌, Ok, Err, Result, nat_le}
+use Rattle.std.specs.Prelude.{ℕ, ◌≤◌, cond, [], ◌∷◌, Ok, Err, Result, nat_le}
 use Rattle.rates.specs.Amount.{bound}
 use Rattle.rates.specs.declared.amount.OutOfRange.{OutOfRange}
 use Rattle.store.specs.declared.store.Store.{Ghosts}
 use Rattle.store.specs.Meaning.{Meaning}
+use Rattle.store.specs.Cell.{cell, CellSound, filled as filled_cell, emptied as emptied_cell}
 use Rattle.guide.specs.declared.battery.Battery.{Battery}
 
 abbrev pub new_battery : ℕ → Result Battery OutOfRange
-new_battery c = cond (nat_le c bound) (Ok (record { capacity = c; held = c })) (Err (record {}))
+new_battery c = cond (nat_le c bound) (Ok (record { cell = cell c c })) (Err (record {}))
 
 abbrev pub battery_means : Battery → Meaning
-battery_means b = record { held = b.held; capacity = b.capacity; stages = record { kind = 66; available = b.held } ∷ [] }
+battery_means b = record {
+  held = b.cell.held;
+  capacity = b.cell.capacity;
+  stages = record { kind = 66; available = b.cell.held } ∷ [];
+}
 
 abbrev pub BatterySound : Battery → Type 0
-BatterySound b = (b.held ≤ b.capacity) × (b.capacity ≤ bound)
+BatterySound b = CellSound b.cell × (b.cell.capacity ≤ bound)
 
 abbrev pub filled : ℕ → Battery → Battery
-filled q b = record { capacity = b.capacity; held = b.held + min q (b.capacity - b.held) }
+filled q b = record { cell = filled_cell q b.cell }
 
 abbrev pub emptied : ℕ → Battery → Battery
-emptied q b = record { capacity = b.capacity; held = b.held - min q b.held }
+emptied q b = record { cell = emptied_cell q b.cell }
 
 abbrev pub battery_store : Ghosts Battery
 battery_store = record {

@@ -5,15 +5,14 @@ ghost use Rattle.guide.specs.Battery.{new_battery, battery_means, BatterySound, 
 ghost use Rattle.guide.specs.Laws.{battery_laws};
 
 use rates::{G, OutOfRange};
-use store::{Fault, Store};
+use store::{Cell, Fault, Store};
 
 // What a tick loses, while anything is held.
 const SELF_DISCHARGE: u32 = 1;
 
 #[derive(Drop)]
 pub struct Battery {
-    capacity: u32,
-    held: u32,
+    cell: Cell,
 }
 
 impl Battery {
@@ -26,8 +25,7 @@ impl Battery {
             return Err(OutOfRange);
         }
         Ok(Battery {
-            capacity,
-            held: capacity,
+            cell: Cell::full(capacity),
         })
     }
 }
@@ -46,15 +44,15 @@ impl Store for Battery {
     ghost means = { battery_laws };
 
     fn held(&self) -> u32 {
-        self.held
+        self.cell.held()
     }
 
     fn capacity(&self) -> u32 {
-        self.capacity
+        self.cell.capacity()
     }
 
     fn available(&self) -> u32 {
-        self.held
+        self.cell.held()
     }
 
     fn height(&self) -> u8 {
@@ -66,9 +64,7 @@ impl Store for Battery {
         ensures charged { BatterySound self.old → Charged q (battery_means self.old) result (battery_means self.new) }
         ensures after { self.new ≡ filled q self.old }
     {
-        let added = q.min(self.capacity.saturating_sub(self.held));
-        self.held += added;
-        added
+        self.cell.charge(q)
     }
 
     fn draw(&mut self, q: u32) -> Result<(), Fault>
@@ -77,15 +73,11 @@ impl Store for Battery {
         ensures same { OnErr result (self.new ≡ self.old) }
         ensures after { OnOk result (self.new ≡ emptied q self.old) }
     {
-        if q > self.held {
-            return Err(Fault {
-                height: 0,
-                kind: Self::KIND,
-                deficit: q - self.held,
-            });
-        }
-        self.held -= q;
-        Ok(())
+        self.cell.draw(q).map_err(|deficit| Fault {
+            height: 0,
+            kind: Self::KIND,
+            deficit,
+        })
     }
 
     fn drain(&mut self, q: u32) -> u32
@@ -93,9 +85,7 @@ impl Store for Battery {
         ensures drained { BatterySound self.old → Drained q (battery_means self.old) result (battery_means self.new) }
         ensures after { self.new ≡ emptied q self.old }
     {
-        let gone = q.min(self.held);
-        self.held -= gone;
-        gone
+        self.cell.drain(q)
     }
 
     fn tick(&mut self) -> u32

@@ -1,4 +1,4 @@
-// A store and a layer of one's own, written over the crate `store` alone.
+// A store and a layer of one's own, written over the crates `store` and `layers` alone.
 #![tactic(auto)]
 
 mod battery;

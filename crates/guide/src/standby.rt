@@ -1,89 +1,42 @@
 // A standby current: at each tick a fixed amount of what the store below holds is lost.
-ghost use Rattle.std.specs.Prelude.{◌≡◌, OnErr};
-ghost use Rattle.store.specs.Meaning.{Charged, Drawn, Drained, Ticked};
-ghost use Rattle.guide.specs.Standby.{standby_means, StandbySound, Lost};
-ghost use Rattle.guide.specs.Laws.{standby_laws};
+ghost use Rattle.std.specs.Prelude.{◌≡◌, refl};
+ghost use Rattle.layers.specs.Laws.{all_under};
+ghost use Rattle.guide.specs.Standby.{standby_layer};
 
-use store::{Fault, Store};
+use layers::Layer;
 
 #[derive(Drop)]
-pub struct Standby<S> {
-    below: S,
+pub struct Standby {
     amount: u32,
 }
 
-impl<S> Standby<S> {
+impl Standby {
     // A standby current of any amount.
-    pub fn new(below: S, amount: u32) -> Standby<S>
-        ensures result { result ≡ record { below = below; amount = amount } }
+    pub fn new(amount: u32) -> Standby
+        ensures result { result ≡ record { amount = amount } }
     {
-        Standby { below, amount }
+        Standby { amount }
     }
 }
 
-impl<S: Store> Store for Standby<S> {
-    ghost held = { λ y. (standby_means (S.Store) y).held };
-
-    ghost capacity = { λ y. (standby_means (S.Store) y).capacity };
-
-    ghost stages = { λ y. (standby_means (S.Store) y).stages };
-
-    ghost sound = { StandbySound (S.Store) };
+impl Layer for Standby {
+    ghost leak = { standby_layer.leak };
 
     const KIND: u8 = b'Y';
 
-    ghost means = { λ y s. standby_laws _ (S.Store.means y.below s) };
+    ghost KIND = { standby_layer.KIND };
 
-    fn held(&self) -> u32 {
-        self.below.held()
+    fn leaves(&self, below: u32) -> u32 {
+        below
     }
 
-    fn capacity(&self) -> u32 {
-        self.below.capacity()
+    fn leak(&mut self, _held: u32) -> u32 {
+        self.amount
     }
 
-    fn available(&self) -> u32 {
-        self.below.available()
-    }
+    ghost lettered = { tt };
 
-    fn height(&self) -> u8 {
-        self.below.height().saturating_add(1)
-    }
+    ghost under = { λ y a s. all_under a };
 
-    fn charge(&mut self, q: u32) -> u32
-        ensures sound { StandbySound (S.Store) self.old → StandbySound (S.Store) self.new }
-        ensures charged { StandbySound (S.Store) self.old → Charged q (standby_means (S.Store) self.old) result (standby_means (S.Store) self.new) }
-        ensures amount { self.new.amount ≡ self.old.amount }
-    {
-        self.below.charge(q)
-    }
-
-    // The stage has what the stage below it has, so a fault is always of a stage below.
-    fn draw(&mut self, q: u32) -> Result<(), Fault>
-        ensures sound { StandbySound (S.Store) self.old → StandbySound (S.Store) self.new }
-        ensures drawn { StandbySound (S.Store) self.old → Drawn q (standby_means (S.Store) self.old) result (standby_means (S.Store) self.new) }
-        ensures same { OnErr result (self.new ≡ self.old) }
-        ensures amount { self.new.amount ≡ self.old.amount }
-    {
-        self.below.draw(q)
-    }
-
-    fn drain(&mut self, q: u32) -> u32
-        ensures sound { StandbySound (S.Store) self.old → StandbySound (S.Store) self.new }
-        ensures drained { StandbySound (S.Store) self.old → Drained q (standby_means (S.Store) self.old) result (standby_means (S.Store) self.new) }
-        ensures amount { self.new.amount ≡ self.old.amount }
-    {
-        self.below.drain(q)
-    }
-
-    // The amount is drained, not drawn, so that no floor below stops it.
-    fn tick(&mut self) -> u32
-        ensures sound { StandbySound (S.Store) self.old → StandbySound (S.Store) self.new }
-        ensures ticked { StandbySound (S.Store) self.old → Ticked (standby_means (S.Store) self.old) result (standby_means (S.Store) self.new) }
-        ensures after { StandbySound (S.Store) self.old → Lost (S.Store) self.old result self.new }
-    {
-        let loss = self.below.tick();
-        let gone = self.below.drain(self.amount);
-        loss.saturating_add(gone)
-    }
+    ghost lowers = { λ y a q s le. refl };
 }

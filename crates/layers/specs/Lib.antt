@@ -1,3 +1,4 @@
+pub mod Layered
 pub mod Floor
 pub mod Leakage
 pub mod Laws

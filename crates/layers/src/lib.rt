@@ -2,7 +2,11 @@
 #![tactic(auto)]
 
 mod floor;
+mod layer;
+mod layered;
 mod leakage;
 
 pub use floor::Floor;
+pub use layer::Layer;
+pub use layered::Layered;
 pub use leakage::Leakage;

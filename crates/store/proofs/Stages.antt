@@ -1,5 +1,5 @@
 -- Laws of a stage on top of others, for the layers.
-use Rattle.std.proofs.Common.{◌≡◌, ℕ, ◌+◌, ◌-◌, ◌<◌, ◌≤◌, min, cond, T, ltb, List, [], ◌∷◌, ◌++◌, length, IfErr, Ok, Err, Result, sym, refl, ap, ◌∙◌, arith, length-append, le-ltb, lt-ltb}
+use Rattle.std.proofs.Common.{◌≡◌, ℕ, ◌+◌, ◌-◌, ◌<◌, ◌≤◌, min, cond, T, ltb, List, [], ◌∷◌, ◌++◌, length, Ok, Err, Result, sym, refl, ap, ◌∙◌, arith, length-append, le-ltb, lt-ltb}
 use Rattle.store.specs.declared.fault.Fault.{Fault}
 use Rattle.store.specs.Meaning.{Stage, Meaning, Sound, Lettered, Falling, letter, top, shown, height_of, lower, lowered, with_stage, fault_from, kinds, SameMake, Charged, after_draw, Drawn, Drained, Ticked}
 
@@ -73,17 +73,17 @@ fault_below n q (x ∷ y ∷ ss) s lt some = ap (λ f. cond (ltb x.available q) 
 
 -- a draw that is passed on, under a top stage whose available amount is f of that below: it gives whatever the
 -- stage below it can, so its own fault does not come up
-pub drawn_more : (f : ℕ → ℕ) (k q : ℕ) (m n : Meaning) (r : Result (Unit {0}) Fault) → Sound m → ((x : ℕ) → f x ≤ x) → ((x : ℕ) → f (x - q) ≡ f x - q) → (q ≤ top m.stages → q ≤ f (top m.stages)) → Drawn q m r n → Drawn q (with_stage (record { kind = k; available = f (top m.stages) }) m) r (with_stage (record { kind = k; available = f (top n.stages) }) n)
+pub drawn_more : (f : ℕ → ℕ) (k q : ℕ) (m n : Meaning) (r : Result (Unit {0}) Fault) → Sound m → f (top m.stages) ≤ top m.stages → (q ≤ f (top m.stages) → f (top m.stages - q) ≡ f (top m.stages) - q) → (q ≤ top m.stages → q ≤ f (top m.stages)) → Drawn q m r n → Drawn q (with_stage (record { kind = k; available = f (top m.stages) }) m) r (with_stage (record { kind = k; available = f (top n.stages) }) n)
 drawn_more f k q m n (Ok u) sound under lowers gives d =
     let s : Stage = record { kind = k; available = f (top m.stages) } in
     let made : (x : Meaning) → x ≡ after_draw q m → with_stage (record { kind = k; available = f (top x.stages) }) x ≡ after_draw q (with_stage s m) = λ x e.
     ap (λ y. with_stage (record { kind = k; available = f (top y.stages) }) y) e
-    ∙ ap (λ a. with_stage (record { kind = k; available = a }) (after_draw q m)) (ap f (top_lowered q m.stages) ∙ lowers (top m.stages))
+    ∙ ap (λ a. with_stage (record { kind = k; available = a }) (after_draw q m)) (ap f (top_lowered q m.stages) ∙ lowers (gives d.0))
     ∙ ap (λ ss. record { held = m.held - q; capacity = m.capacity; stages = ss }) (sym (lowered_more q m.stages s)) in
     (omega (arith, gives d.0, top_more m.stages s), made n d.1)
 drawn_more f k q m n (Err e) sound under lowers gives d =
     let s : Stage = record { kind = k; available = f (top m.stages) } in (
-      omega (arith, d.0, under (top m.stages), top_more m.stages s),
+      omega (arith, d.0, under, top_more m.stages s),
       d.1 ∙ sym (fault_below 0 q m.stages s d.0 sound.some),
       ap (λ x. with_stage (record { kind = k; available = f (top x.stages) }) x) d.2,
     )
@@ -109,8 +109,3 @@ refused_top q m s f sound le lt height kind deficit = (
       ∙ sym (fault_top 0 q m.held m.stages s sound.falling le lt sound.some),
   refl,
 )
-
--- what holds of every refusal, made weaker
-pub refused_weaker : {X Y : Type 0} (r : Result X Y) {P Q : Type 0} → (P → Q) → IfErr r (λ _. P) → IfErr r (λ _. Q)
-refused_weaker (Ok x) f p = tt
-refused_weaker (Err y) f p = f p

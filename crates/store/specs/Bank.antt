@@ -1,50 +1,62 @@
--- Banks of cells, by two lists: what each cell can hold, and what it holds. Assumes nothing.
+-- Banks of cells. Assumes nothing.
+--     held_in xs           what the cells xs hold together
+--     capacity_of xs       what they can hold together
 --     fits cs              there is a bank of these capacities: 1 to 8 of them, at most G together
---     Within cs hs         for each capacity what a cell holds, and no more than that
---     filled q cs hs       what the cells hold after q more: cell 0 is filled first, then cell 1, and so on
---     emptied q hs         what the cells hold after q less: the last cell is emptied first
---     bank_means b         a bank's meaning: one stage, of kind F, with all that the cells hold
---     BankSound b          its cells are within their capacities, which are at most G together
---     bank_store           its members as a store
---     with_none cs         the capacities cs, and 0 in what is left of the eight places
+--     filled q xs          the cells xs with q more: cell 0 is filled first, then cell 1, and so on
+--     emptied q xs         the cells xs with q less: the last cell is emptied first
+--     empty_cells cs       empty cells of the capacities cs
+--     with_cells xs        the bank of the cells xs
 --     new_bank cs          what is made of the capacities cs: an empty bank, where they fit
---     with_held hs b       the bank b with its cells holding hs
-use Rattle.std.specs.Prelude.{ℕ, ◌+◌, ◌-◌, ◌≤◌, min, Bool, cond, ◌&&◌, List, [], ◌∷◌, ◌++◌, length, replicate, Ok, Err, sum, Result, nat_le}
+--     bank_means b         a bank's meaning: one stage, of kind F, with all that the cells hold
+--     BankSound b          each cell holds no more than its capacity, and the capacities are at most G together
+--     bank_store           its members as a store
+use Rattle.std.specs.Prelude.{ℕ, ◌-◌, ◌≤◌, Bool, cond, ◌&&◌, List, [], ◌∷◌, map, length, Ok, Err, sum, Result, nat_le}
+use Rattle.std.specs.List.{sum_by, AllByRecursion}
 use Rattle.rates.specs.Amount.{bound}
 use Rattle.rates.specs.declared.amount.OutOfRange.{OutOfRange}
 use Rattle.store.specs.declared.bank.Bank.{Bank}
+use Rattle.store.specs.declared.cell.Cell.{Cell}
 use Rattle.store.specs.declared.store.Store.{Ghosts}
 use Rattle.store.specs.Meaning.{Meaning}
+use Rattle.store.specs.Cell.{cell, room, CellSound, filled as filled_cell, emptied as emptied_cell}
+
+abbrev pub held_in : List Cell → ℕ
+held_in xs = sum_by (λ x. x.held) xs
+
+abbrev pub capacity_of : List Cell → ℕ
+capacity_of xs = sum_by (λ x. x.capacity) xs
 
 abbrev pub fits : List ℕ → Bool
 fits cs = nat_le 1 (length cs) && nat_le (length cs) 8 && nat_le (sum cs) bound
 
-abbrev pub Within : List ℕ → List ℕ → Type 0
-Within [] [] = Unit {0}
-Within [] (h ∷ hs) = ⊥
-Within (c ∷ cs) [] = ⊥
-Within (c ∷ cs) (h ∷ hs) = (h ≤ c) × Within cs hs
-
 -- a cell takes what those before it left, up to its room, and leaves the rest
-abbrev pub filled : ℕ → List ℕ → List ℕ → List ℕ
-filled q [] hs = hs
-filled q (c ∷ cs) [] = []
-filled q (c ∷ cs) (h ∷ hs) = (h + min q (c - h)) ∷ filled (q - (c - h)) cs hs
+abbrev pub filled : ℕ → List Cell → List Cell
+filled q [] = []
+filled q (x ∷ xs) = filled_cell q x ∷ filled (q - room x) xs
 
 -- a cell gives what those after it could not
-abbrev pub emptied : ℕ → List ℕ → List ℕ
+abbrev pub emptied : ℕ → List Cell → List Cell
 emptied q [] = []
-emptied q (h ∷ hs) = (h - (q - sum hs)) ∷ emptied q hs
+emptied q (x ∷ xs) = emptied_cell (q - held_in xs) x ∷ emptied q xs
+
+abbrev pub empty_cells : List ℕ → List Cell
+empty_cells cs = map (λ c. cell c 0) cs
+
+abbrev pub with_cells : List Cell → Bank
+with_cells xs = record { cells = record { items = xs } }
+
+abbrev pub new_bank : List ℕ → Result Bank OutOfRange
+new_bank cs = cond (fits cs) (Ok (with_cells (empty_cells cs))) (Err (record {}))
 
 abbrev pub bank_means : Bank → Meaning
 bank_means b = record {
-  held = sum b.held;
-  capacity = sum b.capacities;
-  stages = record { kind = 70; available = sum b.held } ∷ [];
+  held = held_in b.cells.items;
+  capacity = capacity_of b.cells.items;
+  stages = record { kind = 70; available = held_in b.cells.items } ∷ [];
 }
 
 abbrev pub BankSound : Bank → Type 0
-BankSound b = Within b.capacities b.held × (sum b.capacities ≤ bound)
+BankSound b = AllByRecursion CellSound b.cells.items × (capacity_of b.cells.items ≤ bound)
 
 abbrev pub bank_store : Ghosts Bank
 bank_store = record {
@@ -53,14 +65,3 @@ bank_store = record {
   stages = λ b. (bank_means b).stages;
   sound = BankSound;
 }
-
--- there are eight places, and those past the last cell are cells that can hold nothing
-abbrev pub with_none : List ℕ → List ℕ
-with_none cs = cs ++ replicate (8 - length cs) 0
-
-abbrev pub new_bank : List ℕ → Result Bank OutOfRange
-new_bank cs =
-    cond (fits cs) (Ok (record { count = length cs; capacities = with_none cs; held = replicate 8 0 })) (Err (record {}))
-
-abbrev pub with_held : List ℕ → Bank → Bank
-with_held hs b = record { count = b.count; capacities = b.capacities; held = hs }

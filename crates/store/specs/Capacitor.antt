@@ -5,21 +5,26 @@
 --     capacitor_store      its members as a store
 --     filled q c           the capacitor c with q more, as far as it has room
 --     emptied q c          the capacitor c with q less, as far as it holds that
-use Rattle.std.specs.Prelude.{ℕ, ◌+◌, ◌-◌, ◌≤◌, min, cond, [], ◌∷◌, Ok, Err, Result, nat_le}
+use Rattle.std.specs.Prelude.{ℕ, ◌≤◌, cond, [], ◌∷◌, Ok, Err, Result, nat_le}
 use Rattle.rates.specs.Amount.{bound}
 use Rattle.rates.specs.declared.amount.OutOfRange.{OutOfRange}
 use Rattle.store.specs.declared.capacitor.Capacitor.{Capacitor}
 use Rattle.store.specs.declared.store.Store.{Ghosts}
 use Rattle.store.specs.Meaning.{Meaning}
+use Rattle.store.specs.Cell.{cell, CellSound, filled as filled_cell, emptied as emptied_cell}
 
 abbrev pub new_capacitor : ℕ → Result Capacitor OutOfRange
-new_capacitor c = cond (nat_le c bound) (Ok (record { capacity = c; held = 0 })) (Err (record {}))
+new_capacitor c = cond (nat_le c bound) (Ok (record { cell = cell c 0 })) (Err (record {}))
 
 abbrev pub capacitor_means : Capacitor → Meaning
-capacitor_means c = record { held = c.held; capacity = c.capacity; stages = record { kind = 67; available = c.held } ∷ [] }
+capacitor_means c = record {
+  held = c.cell.held;
+  capacity = c.cell.capacity;
+  stages = record { kind = 67; available = c.cell.held } ∷ [];
+}
 
 abbrev pub CapacitorSound : Capacitor → Type 0
-CapacitorSound c = (c.held ≤ c.capacity) × (c.capacity ≤ bound)
+CapacitorSound c = CellSound c.cell × (c.cell.capacity ≤ bound)
 
 abbrev pub capacitor_store : Ghosts Capacitor
 capacitor_store = record {
@@ -30,7 +35,7 @@ capacitor_store = record {
 }
 
 abbrev pub filled : ℕ → Capacitor → Capacitor
-filled q c = record { capacity = c.capacity; held = c.held + min q (c.capacity - c.held) }
+filled q c = record { cell = filled_cell q c.cell }
 
 abbrev pub emptied : ℕ → Capacitor → Capacitor
-emptied q c = record { capacity = c.capacity; held = c.held - min q c.held }
+emptied q c = record { cell = emptied_cell q c.cell }

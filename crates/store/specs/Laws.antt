@@ -1,28 +1,25 @@
 -- What a sound capacitor and a sound bank keep to, as every store does. Assumes nothing.
---     sum_cons x xs            a sum begins with the first
---     within_sum cs hs w       cells that are within their capacities hold no more together than these
+--     held_within xs w         cells that hold no more than their capacities hold no more together than these
 --     capacitor_laws c s       a sound capacitor means a sound store
 --     bank_laws b s            and so does a sound bank
-use Rattle.std.specs.Prelude.{◌≡◌, ℕ, ◌+◌, ◌≤◌, List, [], ◌∷◌, sum}
+use Rattle.std.specs.Prelude.{◌≤◌, List, [], ◌∷◌}
+use Rattle.std.specs.List.{AllByRecursion}
 use Rattle.std.proofs.Common.{arith, rules}
 use Rattle.std.proofs.lemmas.List.Sums.{sum_by-cons}
 use Rattle.store.specs.declared.capacitor.Capacitor.{Capacitor}
+use Rattle.store.specs.declared.cell.Cell.{Cell}
 use Rattle.store.specs.declared.bank.Bank.{Bank}
 use Rattle.store.specs.Meaning.{Sound}
+use Rattle.store.specs.Cell.{CellSound}
 use Rattle.store.specs.Capacitor.{capacitor_means, CapacitorSound}
-use Rattle.store.specs.Bank.{Within, bank_means, BankSound}
+use Rattle.store.specs.Bank.{held_in, capacity_of, bank_means, BankSound}
 
-pub sum_cons : (x : ℕ) (xs : List ℕ) → sum (x ∷ xs) ≡ x + sum xs
-sum_cons x xs = sum_by-cons (λ y. y) x xs
-
-pub within_sum : (cs hs : List ℕ) → Within cs hs → sum hs ≤ sum cs
-within_sum [] [] w = omega arith
-within_sum [] (h ∷ hs) w = elim w [ ]
-within_sum (c ∷ cs) [] w = elim w [ ]
-within_sum (c ∷ cs) (h ∷ hs) w = omega (arith, w.0, within_sum cs hs w.1, sum_cons c cs, sum_cons h hs)
+pub held_within : (xs : List Cell) → AllByRecursion CellSound xs → held_in xs ≤ capacity_of xs
+held_within [] w = omega arith
+held_within (x ∷ xs) w = omega (arith, w.0, held_within xs w.1, sum_by-cons (λ y. y.held) x xs, sum_by-cons (λ y. y.capacity) x xs)
 
 pub capacitor_laws : (c : Capacitor) → CapacitorSound c → Sound (capacitor_means c)
 capacitor_laws c s = search rules
 
 pub bank_laws : (b : Bank) → BankSound b → Sound (bank_means b)
-bank_laws b s = let within = within_sum b.capacities b.held s.0 in search rules
+bank_laws b s = let within = held_within b.cells.items s.0 in search rules

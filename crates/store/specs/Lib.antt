@@ -1,4 +1,5 @@
 pub mod Meaning
+pub mod Cell
 pub mod Capacitor
 pub mod Bank
 pub mod Laws

@@ -1,44 +1,21 @@
 // A bank of 1 to 8 cells: filled from cell 0 up, emptied from the last cell down.
-ghost use Rattle.std.specs.Prelude.{◌≡◌, ◌-◌, ◌^◌, ◌≤◌, min, length, take, IfOk, sum, OnErr, OnOk};
+ghost use Rattle.std.specs.Prelude.{◌≡◌, IfOk, OnErr, OnOk};
 ghost use Rattle.store.specs.Meaning.{Charged, Drawn, Drained, Ticked};
-ghost use Rattle.store.specs.Bank.{with_none, new_bank, filled, emptied, with_held, bank_means, BankSound};
+ghost use Rattle.store.specs.Bank.{new_bank, filled, emptied, with_cells, bank_means, BankSound};
 ghost use Rattle.store.specs.Laws.{bank_laws};
 
+use crate::cell::Cell;
 use crate::fault::Fault;
 use crate::store::Store;
+use arrayvec::ArrayVec;
 use rates::{G, OutOfRange};
+use std::fmt;
 
 const MOST_CELLS: usize = 8;
 
-// The places past the count are cells of capacity 0.
 #[derive(Drop)]
 pub struct Bank {
-    count: usize,
-    capacities: [u32; MOST_CELLS],
-    held: [u32; MOST_CELLS],
-}
-
-// All the amounts together, or the largest `u32` where that is less.
-fn total(amounts: &[u32]) -> u32
-    ensures result { result ≡ min (sum amounts.now) (2 ^ 32 - 1) }
-{
-    let mut total = 0u32;
-    for amount in amounts {
-        total = total.saturating_add(*amount);
-    }
-    total
-}
-
-// The capacities, and cells of capacity 0 in the places after them.
-fn padded(capacities: &[u32]) -> [u32; MOST_CELLS]
-    requires { length capacities.now ≤ 8 }
-    ensures result { result ≡ with_none capacities.now }
-{
-    let mut all = [0; MOST_CELLS];
-    for (i, capacity) in capacities.iter().enumerate() {
-        all[i] = *capacity;
-    }
-    all
+    cells: ArrayVec<Cell, MOST_CELLS>,
 }
 
 impl Bank {
@@ -48,27 +25,24 @@ impl Bank {
         ensures sound { IfOk result BankSound }
     {
         let count = capacities.len();
-        if count == 0 || count > MOST_CELLS || total(capacities) > G {
+        let total = capacities
+            .iter()
+            .fold(0u32, |total, capacity| total.saturating_add(*capacity));
+        if count == 0 || count > MOST_CELLS || total > G {
             return Err(OutOfRange);
         }
-        Ok(Bank {
-            count,
-            capacities: padded(capacities),
-            held: [0; MOST_CELLS],
-        })
+        let mut cells = ArrayVec::new();
+        for capacity in capacities {
+            cells.push(Cell::empty(*capacity));
+        }
+        Ok(Bank { cells })
     }
 
-    // What each cell holds, cell 0 first.
-    pub fn cells(&self) -> &[u32]
-        ensures result { result.now ≡ take self.now.count self.now.held }
+    // The cells, cell 0 first.
+    pub fn cells(&self) -> &[Cell]
+        ensures result { result.now ≡ self.now.cells.items }
     {
-        let count = self.count;
-        let all = &self.held[..];
-        if count < MOST_CELLS {
-            &all[0..count]
-        } else {
-            all
-        }
+        self.cells.as_slice()
     }
 }
 
@@ -86,11 +60,15 @@ impl Store for Bank {
     ghost means = { bank_laws };
 
     fn held(&self) -> u32 {
-        total(&self.held)
+        self.cells
+            .iter()
+            .fold(0u32, |total, cell| total.saturating_add(cell.held()))
     }
 
     fn capacity(&self) -> u32 {
-        total(&self.capacities)
+        self.cells
+            .iter()
+            .fold(0u32, |total, cell| total.saturating_add(cell.capacity()))
     }
 
     fn available(&self) -> u32 {
@@ -104,14 +82,11 @@ impl Store for Bank {
     fn charge(&mut self, q: u32) -> u32
         ensures sound { BankSound self.old → BankSound self.new }
         ensures charged { BankSound self.old → Charged q (bank_means self.old) result (bank_means self.new) }
-        ensures after { self.new ≡ with_held (filled q self.old.capacities self.old.held) self.old }
+        ensures after { self.new ≡ with_cells (filled q self.old.cells.items) }
     {
         let mut left = q;
-        for i in 0..MOST_CELLS {
-            let held = self.held[i];
-            let added = left.min(self.capacities[i].saturating_sub(held));
-            self.held[i] = held + added;
-            left -= added;
+        for cell in self.cells.iter_mut() {
+            left -= cell.charge(left);
         }
         q - left
     }
@@ -120,7 +95,7 @@ impl Store for Bank {
         ensures sound { BankSound self.old → BankSound self.new }
         ensures drawn { BankSound self.old → Drawn q (bank_means self.old) result (bank_means self.new) }
         ensures same { OnErr result (self.new ≡ self.old) }
-        ensures after { OnOk result (self.new ≡ with_held (emptied q self.old.held) self.old) }
+        ensures after { OnOk result (self.new ≡ with_cells (emptied q self.old.cells.items)) }
     {
         let held = self.held();
         if q > held {
@@ -137,13 +112,12 @@ impl Store for Bank {
     fn drain(&mut self, q: u32) -> u32
         ensures sound { BankSound self.old → BankSound self.new }
         ensures drained { BankSound self.old → Drained q (bank_means self.old) result (bank_means self.new) }
-        ensures after { self.new ≡ with_held (emptied q self.old.held) self.old }
+        ensures after { self.new ≡ with_cells (emptied q self.old.cells.items) }
     {
         let mut left = q;
-        for i in (0..MOST_CELLS).rev() {
-            let given = left.min(self.held[i]);
-            self.held[i] -= given;
-            left -= given;
+        let cells = self.cells.as_mut_slice();
+        for i in (0..cells.len()).rev() {
+            left -= cells[i].drain(left);
         }
         q - left
     }
@@ -155,5 +129,14 @@ impl Store for Bank {
         ensures same { self.new ≡ self.old }
     {
         0
+    }
+}
+
+// What each cell holds, cell 0 first, as `[5, 2, 0]`.
+impl fmt::Display for Bank {
+    fn fmt<W: fmt::Write>(&self, f: &mut fmt::Formatter<W>) -> fmt::Result {
+        f.debug_list()
+            .entries(self.cells.iter().map(Cell::held))
+            .finish()
     }
 }

@@ -4,14 +4,14 @@ ghost use Rattle.store.specs.Meaning.{Charged, Drawn, Drained, Ticked};
 ghost use Rattle.store.specs.Capacitor.{new_capacitor, capacitor_means, CapacitorSound, filled, emptied};
 ghost use Rattle.store.specs.Laws.{capacitor_laws};
 
+use crate::cell::Cell;
 use crate::fault::Fault;
 use crate::store::Store;
 use rates::{G, OutOfRange};
 
 #[derive(Drop)]
 pub struct Capacitor {
-    capacity: u32,
-    held: u32,
+    cell: Cell,
 }
 
 impl Capacitor {
@@ -23,7 +23,9 @@ impl Capacitor {
         if capacity > G {
             return Err(OutOfRange);
         }
-        Ok(Capacitor { capacity, held: 0 })
+        Ok(Capacitor {
+            cell: Cell::empty(capacity),
+        })
     }
 }
 
@@ -41,15 +43,15 @@ impl Store for Capacitor {
     ghost means = { capacitor_laws };
 
     fn held(&self) -> u32 {
-        self.held
+        self.cell.held()
     }
 
     fn capacity(&self) -> u32 {
-        self.capacity
+        self.cell.capacity()
     }
 
     fn available(&self) -> u32 {
-        self.held
+        self.cell.held()
     }
 
     fn height(&self) -> u8 {
@@ -61,9 +63,7 @@ impl Store for Capacitor {
         ensures charged { CapacitorSound self.old → Charged q (capacitor_means self.old) result (capacitor_means self.new) }
         ensures after { self.new ≡ filled q self.old }
     {
-        let added = q.min(self.capacity.saturating_sub(self.held));
-        self.held += added;
-        added
+        self.cell.charge(q)
     }
 
     fn draw(&mut self, q: u32) -> Result<(), Fault>
@@ -72,15 +72,11 @@ impl Store for Capacitor {
         ensures same { OnErr result (self.new ≡ self.old) }
         ensures after { OnOk result (self.new ≡ emptied q self.old) }
     {
-        if q > self.held {
-            return Err(Fault {
-                height: 0,
-                kind: Self::KIND,
-                deficit: q - self.held,
-            });
-        }
-        self.held -= q;
-        Ok(())
+        self.cell.draw(q).map_err(|deficit| Fault {
+            height: 0,
+            kind: Self::KIND,
+            deficit,
+        })
     }
 
     fn drain(&mut self, q: u32) -> u32
@@ -88,9 +84,7 @@ impl Store for Capacitor {
         ensures drained { CapacitorSound self.old → Drained q (capacitor_means self.old) result (capacitor_means self.new) }
         ensures after { self.new ≡ emptied q self.old }
     {
-        let gone = q.min(self.held);
-        self.held -= gone;
-        gone
+        self.cell.drain(q)
     }
 
     fn tick(&mut self) -> u32

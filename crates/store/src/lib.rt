@@ -3,10 +3,12 @@
 
 mod bank;
 mod capacitor;
+mod cell;
 mod fault;
 mod store;
 
 pub use bank::Bank;
 pub use capacitor::Capacitor;
+pub use cell::Cell;
 pub use fault::Fault;
 pub use store::Store;

@@ -1,0 +1,50 @@
+// A layer, by the stage that it adds on top of a store and by what it lets leak from it.
+ghost use Rattle.std.specs.Prelude.{◌≡◌, ℕ, ◌-◌, ◌≤◌, T};
+ghost use Rattle.store.specs.Meaning.{letter};
+
+use crate::layered::Layered;
+
+pub trait Layer {
+    // How much it leaves available where so much is available below.
+    ghost leaves: { Self → ℕ → ℕ } = { λ l below. below };
+
+    // How much leaks at a tick from a store that holds so much.
+    ghost leak: { Self → ℕ → ℕ } = { λ l held. 0 };
+
+    // The layer after that tick.
+    ghost after: { Self → ℕ → Self } = { λ l held. l };
+
+    // The value is well made; every call keeps it so.
+    ghost sound: { Self → Type 0 } = { λ l. Unit {0} };
+
+    // The letter of this kind of layer.
+    const KIND: u8;
+
+    ghost KIND: { ℕ };
+
+    fn leaves(&self, below: u32) -> u32
+        ensures result { sound self.now → result ≡ leaves self.now below };
+
+    // A tick passes over a store that holds so much.
+    fn leak(&mut self, held: u32) -> u32
+        ensures sound { sound self.old → sound self.new }
+        ensures result { sound self.old → result ≡ leak self.old held }
+        ensures after { sound self.old → self.new ≡ after self.old held };
+
+    // This layer over the store.
+    final fn over<S>(self, below: S) -> Layered<S, Self>
+    where
+        Self: Sized,
+        ensures result { result ≡ record { below = below; layer = self } }
+    {
+        Layered { below, layer: self }
+    }
+
+    ghost lettered: { T (letter KIND) };
+
+    // It leaves no more than there is,
+    ghost under: { (l : Self) (a : ℕ) → sound l → leaves l a ≤ a };
+
+    // and what a draw takes below is taken off what it leaves.
+    ghost lowers: { (l : Self) (a q : ℕ) → sound l → q ≤ leaves l a → leaves l (a - q) ≡ leaves l a - q };
+}

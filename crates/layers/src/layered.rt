@@ -1,0 +1,92 @@
+// A layer over a store. The layer adds one stage on top, and passes on all that it does not change.
+ghost use Rattle.std.specs.Prelude.{◌≡◌, OnErr};
+ghost use Rattle.store.specs.Meaning.{Charged, Drawn, Drained, Ticked};
+ghost use Rattle.layers.specs.Layered.{layered_means, LayeredSound, AfterTick, Leaked};
+ghost use Rattle.store.proofs.Stages.{sound_more};
+
+use crate::layer::Layer;
+use store::{Fault, Store};
+
+#[derive(Drop)]
+pub struct Layered<S, L> {
+    pub(crate) below: S,
+    pub(crate) layer: L,
+}
+
+impl<S: Store, L: Layer> Store for Layered<S, L> {
+    ghost held = { λ y. (layered_means (S.Store) (L.Layer) y).held };
+
+    ghost capacity = { λ y. (layered_means (S.Store) (L.Layer) y).capacity };
+
+    ghost stages = { λ y. (layered_means (S.Store) (L.Layer) y).stages };
+
+    ghost sound = { LayeredSound (S.Store) (L.Layer) };
+
+    const KIND: u8 = L::KIND;
+
+    ghost means = { λ y s. sound_more _ _ (S.Store.means y.below s.0) (L.Layer.lettered) (L.Layer.under y.layer _ s.1) };
+
+    fn held(&self) -> u32 {
+        self.below.held()
+    }
+
+    fn capacity(&self) -> u32 {
+        self.below.capacity()
+    }
+
+    fn available(&self) -> u32 {
+        self.layer.leaves(self.below.available())
+    }
+
+    fn height(&self) -> u8 {
+        self.below.height().saturating_add(1)
+    }
+
+    fn charge(&mut self, q: u32) -> u32
+        ensures sound { LayeredSound (S.Store) (L.Layer) self.old → LayeredSound (S.Store) (L.Layer) self.new }
+        ensures charged { LayeredSound (S.Store) (L.Layer) self.old → Charged q (layered_means (S.Store) (L.Layer) self.old) result (layered_means (S.Store) (L.Layer) self.new) }
+        ensures layer { self.new.layer ≡ self.old.layer }
+    {
+        self.below.charge(q)
+    }
+
+    // The layer's own fault is told only where every stage below could give.
+    fn draw(&mut self, q: u32) -> Result<(), Fault>
+        ensures sound { LayeredSound (S.Store) (L.Layer) self.old → LayeredSound (S.Store) (L.Layer) self.new }
+        ensures drawn { LayeredSound (S.Store) (L.Layer) self.old → Drawn q (layered_means (S.Store) (L.Layer) self.old) result (layered_means (S.Store) (L.Layer) self.new) }
+        ensures same { OnErr result (self.new ≡ self.old) }
+        ensures layer { self.new.layer ≡ self.old.layer }
+    {
+        let below = self.below.available();
+        let available = self.layer.leaves(below);
+        if available < q && q <= below {
+            return Err(Fault {
+                height: self.height(),
+                kind: L::KIND,
+                deficit: q - available,
+            });
+        }
+        self.below.draw(q)
+    }
+
+    fn drain(&mut self, q: u32) -> u32
+        ensures sound { LayeredSound (S.Store) (L.Layer) self.old → LayeredSound (S.Store) (L.Layer) self.new }
+        ensures drained { LayeredSound (S.Store) (L.Layer) self.old → Drained q (layered_means (S.Store) (L.Layer) self.old) result (layered_means (S.Store) (L.Layer) self.new) }
+        ensures layer { self.new.layer ≡ self.old.layer }
+    {
+        self.below.drain(q)
+    }
+
+    // The leak is drained, not drawn, so that no floor below stops it.
+    fn tick(&mut self) -> u32
+        ensures sound { LayeredSound (S.Store) (L.Layer) self.old → LayeredSound (S.Store) (L.Layer) self.new }
+        ensures ticked { LayeredSound (S.Store) (L.Layer) self.old → Ticked (layered_means (S.Store) (L.Layer) self.old) result (layered_means (S.Store) (L.Layer) self.new) }
+        ensures layer { AfterTick (L.Layer) self.old.layer self.new.layer }
+        ensures leaked { LayeredSound (S.Store) (L.Layer) self.old → Leaked (S.Store) (L.Layer) self.old result self.new }
+    {
+        let loss = self.below.tick();
+        let leak = self.layer.leak(self.below.held());
+        let gone = self.below.drain(leak);
+        loss.saturating_add(gone)
+    }
+}
