@@ -19,7 +19,7 @@ use Rattle.node.specs.Sound.{TapWell, TapsWell, Well, Whole}
 use Rattle.node.proofs.Levels.{levels_charge_loss}
 use Rattle.node.proofs.Alike.{alike_charge_loss}
 use Rattle.node.proofs.Filled.{root_filled}
-use Rattle.node.proofs.Turns.{turned, turned_all}
+use Rattle.tables.proofs.RowLaws.{Mapped, mapped_all}
 use Rattle.node.proofs.Counting.{ticked_exact}
 
 fits_row : (rs : ReserveRows) (o : Option Tap) → ((t : Tap) → o ≡ Some t → TapWell rs t) → TapFits o
@@ -44,7 +44,7 @@ start_is m mid m' s harvest loss intake sound w ticks charged =
 
 pub tick_step : (m mid m' : Meaning) (s : Standing) (b b' : Books) (harvest loss intake k : ℕ) (report : List ℕ) (start rs : ReserveRows) (ts : TapRows) (gs : List Grant) (serials ticks : ℕ) → Sound m → Sound m' → Whole (record { store = m; standing = s; books = b })
     → 96 ≤ length report → harvest ≤ bound → s.ticks < bound → Ticked m loss mid → Charged harvest mid intake m' → start ≡ fill (charge_loss loss s.reserves) 0 intake → k ≡ 96
-    → ((length s.taps ≡ 96) → ((j : ℕ) → TapFits (get_or s.taps j None)) → (ts ≡ turned k s.taps) × (rs ≡ after_moves start (take k s.taps) (take k report)) × Figures start (take k s.taps) (take k report))
+    → ((length s.taps ≡ 96) → ((j : ℕ) → TapFits (get_or s.taps j None)) → Mapped stepped s.taps ts k × (rs ≡ after_moves start (take k s.taps) (take k report)) × Figures start (take k s.taps) (take k report))
     → gs ≡ s.grants → serials ≡ s.serials → ticks ≡ s.ticks → b' ≡ count_tick harvest loss intake b
     → Step (record { store = m; standing = s; books = b }) (ticked harvest loss intake (take 96 report)) (record { store = m'; standing = record { reserves = rs; taps = ts; grants = gs; serials = serials; ticks = ticks + 1 }; books = b' })
 tick_step m mid m' s b b' harvest loss intake k report start rs ts gs serials ticks sound sound' w room most count lost charged begins last turns same_grants same-serials same-ticks books =
@@ -56,7 +56,7 @@ tick_step m mid m' s b b' harvest loss intake k report start rs ts gs serials ti
     subst (λ x. Figures x s.taps (take 96 report)) from (subst (λ x. Figures start x (take 96 report)) whole (subst (Figures start (take k s.taps)) told ran.2)) in
     let stands : rs ≡ after_moves (before_taps s loss intake) s.taps (take 96 report) =
     ran.1 ∙ ap (after_moves start (take k s.taps)) told ∙ ap (λ x. after_moves start x (take 96 report)) whole ∙ ap (λ x. after_moves x s.taps (take 96 report)) from in
-    let steps : ts ≡ map stepped s.taps = ran.0 ∙ turned_all s.taps k (omega (arith, w.well.taps, last)) in
+    let steps : ts ≡ map stepped s.taps = mapped_all stepped s.taps ts k ran.0 (omega (arith, w.well.taps, last)) in
     record {
       places = length report;
       judged = tick_clear m s harvest (length report) room most count;

@@ -1,9 +1,9 @@
 -- The turns of the taps in one tick, one after the other.
-use Rattle.std.proofs.Common.{◌≡◌, ℕ, zero, suc, ◌+◌, ◌<◌, ◌≤◌, List, [], ◌∷◌, ◌++◌, length, get_or, map, take, drop, set, None, Option, sym, refl, ap, ◌∙◌, subst, append_assoc, arith}
-use lib.Seq.{set_at}
-use Rattle.std.proofs.lemmas.List.{take_more, take_more_set, take_all, drop_more, drop_all, append-nil, get_or_at, length-take-le, length-map, map-append}
+use Rattle.std.proofs.Common.{◌≡◌, ℕ, zero, suc, ◌+◌, ◌<◌, List, [], ◌∷◌, ◌++◌, length, get_or, take, set, None, Option, sym, refl, ap, ◌∙◌, subst}
+use Rattle.std.proofs.lemmas.List.{take_more, take_more_set}
 use Rattle.tables.specs.declared.taps.Tap.{Tap}
 use Rattle.tables.specs.Reserves.{ReserveRows}
+use Rattle.tables.proofs.RowLaws.{Mapped, mapped_here, mapped_more}
 use Rattle.tables.specs.Taps.{TapRows, stepped, figure_of, moved, after_moves, Figures, TapFits, Ran}
 
 pub figures_length : (rs : ReserveRows) (ts : TapRows) (qs : List ℕ) → Figures rs ts qs → length ts ≡ length qs
@@ -25,50 +25,23 @@ figures_more rs [] (p ∷ qs) t q f e = absurd f
 figures_more rs (s ∷ ts) [] t q f e = absurd f
 figures_more rs (s ∷ ts) (p ∷ qs) t q f e = (f.0, figures_more (moved rs s p) ts qs t q f.1 e)
 
--- the rows when the first k have had their turn
-abbrev pub turned : ℕ → TapRows → TapRows
-turned k ts = map stepped (take k ts) ++ drop k ts
-
-module _ (ts : TapRows) (k : ℕ) (lt : k < length ts) where
-  front : length (map stepped (take k ts)) ≡ k
-  front = length-map (take k ts) stepped ∙ length-take-le k ts (omega arith)
-
-  split : turned k ts ≡ map stepped (take k ts) ++ get_or ts k None ∷ drop (k + 1) ts
-  split = ap (λ xs. map stepped (take k ts) ++ xs) (drop_more ts k None lt)
-
-  -- row k has not had its turn
-  pub turned_here : get_or (turned k ts) k None ≡ get_or ts k None
-  turned_here = ap (λ xs. get_or xs k None) split ∙ get_or_at (map stepped (take k ts)) (get_or ts k None) (drop (k + 1) ts) None k front
-
-  pub turned_more : set (turned k ts) k (stepped (get_or ts k None)) ≡ turned (k + 1) ts
-  turned_more =
-      ap (λ xs. set xs k (stepped (get_or ts k None))) split
-      ∙ set_at (map stepped (take k ts)) (get_or ts k None) (drop (k + 1) ts) (stepped (get_or ts k None)) k front
-      ∙ sym (append_assoc (map stepped (take k ts)) (stepped (get_or ts k None) ∷ []) (drop (k + 1) ts))
-      ∙ ap (λ xs. xs ++ drop (k + 1) ts) (sym (map-append stepped (take k ts) (get_or ts k None ∷ [])))
-      ∙ ap (λ xs. map stepped xs ++ drop (k + 1) ts) (sym (take_more ts k None lt))
-
 -- what tap k's turn makes of the turns before it
 pub turn_more : (start : ReserveRows) (ts : TapRows) (report : List ℕ) (k q : ℕ) (rs rs' : ReserveRows) (now now' : TapRows) → k < length ts → k < length report → TapFits (get_or ts k None)
-    → now ≡ turned k ts → rs ≡ after_moves start (take k ts) (take k report) → Figures start (take k ts) (take k report) → Ran k rs now q rs' now'
-    → (now' ≡ turned (k + 1) ts) × (rs' ≡ after_moves start (take (k + 1) ts) (take (k + 1) (set report k q))) × Figures start (take (k + 1) ts) (take (k + 1) (set report k q))
+    → Mapped stepped ts now k → rs ≡ after_moves start (take k ts) (take k report) → Figures start (take k ts) (take k report) → Ran k rs now q rs' now'
+    → Mapped stepped ts now' (k + 1) × (rs' ≡ after_moves start (take (k + 1) ts) (take (k + 1) (set report k q))) × Figures start (take (k + 1) ts) (take (k + 1) (set report k q))
 turn_more start ts report k q rs rs' now now' lt room fits tapped stands figures ran =
-    let row : get_or now k None ≡ get_or ts k None = ap (λ xs. get_or xs k None) tapped ∙ turned_here ts k lt in
+    let row : get_or now k None ≡ get_or ts k None = mapped_here stepped ts now k tapped None lt in
     let fit : TapFits (get_or now k None) = subst TapFits (sym row) fits in
     let figure : q ≡ figure_of (after_moves start (take k ts) (take k report)) (get_or ts k None) = ran.figure fit ∙ ap (figure_of rs) row ∙ ap (λ x. figure_of x (get_or ts k None)) stands in
     let front : take (k + 1) ts ≡ take k ts ++ get_or ts k None ∷ [] = take_more ts k None lt in
     let told : take (k + 1) (set report k q) ≡ take k report ++ q ∷ [] = take_more_set report k q room in (
-      ran.taps fit ∙ ap (λ o. set now k (stepped o)) row ∙ ap (λ xs. set xs k (stepped (get_or ts k None))) tapped ∙ turned_more ts k lt,
+      subst (λ xs. Mapped stepped ts xs (k + 1)) (sym (ran.taps fit)) (mapped_more stepped ts now k tapped None lt),
       ran.reserves fit ∙ ap (λ o. moved rs o q) row ∙ ap (λ x. moved x (get_or ts k None) q) stands
           ∙ sym (moves_more start (take k ts) (take k report) (get_or ts k None) q figures)
           ∙ ap (λ xs. after_moves start xs (take k report ++ q ∷ [])) (sym front) ∙ ap (after_moves start (take (k + 1) ts)) (sym told),
       subst (λ xs. Figures start xs (take (k + 1) (set report k q))) (sym front)
           (subst (Figures start (take k ts ++ get_or ts k None ∷ [])) (sym told) (figures_more start (take k ts) (take k report) (get_or ts k None) q figures figure)),
     )
-
--- after the last turn
-pub turned_all : (ts : TapRows) (k : ℕ) → length ts ≤ k → turned k ts ≡ map stepped ts
-turned_all ts k all = ap (λ xs. map stepped xs ++ drop k ts) (take_all k ts all) ∙ ap (λ xs. map stepped ts ++ xs) (drop_all k ts all) ∙ append-nil (map stepped ts)
 
 -- the figure of tap k is what it moves at its turn
 pub figure_at : (rs : ReserveRows) (ts : TapRows) (qs : List ℕ) (k : ℕ) → Figures rs ts qs → get_or qs k 0 ≡ figure_of (after_moves rs (take k ts) (take k qs)) (get_or ts k None)

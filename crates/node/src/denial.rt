@@ -9,12 +9,7 @@ use thiserror::Error;
 
 // A store's fault, whole, with the task and the reserve that met it.
 #[derive(Clone, Copy, PartialEq, Eq, Debug, Error)]
-#[error(
-    "task {task} drew on reserve {reserve}, but stage {height} of the store ({kind}) lacks {deficit} quanta",
-    height = .fault.height,
-    kind = char::from(.fault.kind),
-    deficit = .fault.deficit
-)]
+#[error("task {task} drew on reserve {reserve}, but stage {height} of the store ({kind}) lacks {deficit} quanta", height = .fault.height, kind = char::from(.fault.kind), deficit = .fault.deficit)]
 pub struct Overdraw {
     pub task: u8,
     pub reserve: u8,

@@ -1,2 +1,3 @@
+pub mod RowLaws
 pub mod ReserveLaws
 pub mod GrantLaws

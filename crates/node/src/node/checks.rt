@@ -95,7 +95,11 @@ impl<S> Node<S> {
             n,
             d,
         } = tap;
-        if !(number <= LAST_TAP && source <= LAST_RESERVE && sink <= LAST_RESERVE && is_rate(n, d)) {
+        if !(number <= LAST_TAP
+            && source <= LAST_RESERVE
+            && sink <= LAST_RESERVE
+            && is_rate(n, d))
+        {
             return Err(Denial::OutOfRange);
         }
         if !(self.reserves.get(source).is_some() && self.reserves.get(sink).is_some()) {

@@ -7,32 +7,30 @@ use Rattle.node.proofs.Goes.{turned_away, goes}
 use Rattle.node.proofs.Settling.{recalled_out}
 use Rattle.node.proofs.node.Node.recall.Goals as goal
 
-pub returns-in_err-grant : goal.returns-in_err-grant
-returns-in_err-grant g c =
+pub returns-in_err-grant-clause-step : goal.returns-in_err-grant-clause-step
+returns-in_err-grant-clause-step g c =
     let p = err_from_is_err_and c.from_residual.result c.from_residual.ensures.1 in
-    rw (p.1, p.2) (record {
-      step = turned_away g.S.Store c.args.self.now (recall c.args.task c.args.serial) _
-          (sym (c.in_err-grant.ensures.judged (store_means g.S.Store c.args.self.now)));
-      same = refl;
-      judged = λ m. sym (c.in_err-grant.ensures.judged m);
-      slip = tt;
-      after = tt;
+    rw (p.1, p.2) (turned_away g.S.Store c.args.self.now (recall c.args.task c.args.serial) _ (sym (c.in_err-grant.ensures.judged (store_means g.S.Store c.args.self.now))))
+
+pub returns-in_err-grant-clause-judged : goal.returns-in_err-grant-clause-judged
+returns-in_err-grant-clause-judged g c =
+    let p = err_from_is_err_and c.from_residual.result c.from_residual.ensures.1 in
+    rw (p.1, p.2) (λ m. sym (c.in_err-grant.ensures.judged m))
+
+pub returns-clause-step : goal.returns-clause-step
+returns-clause-step g c s = goes g.S.Store g.met.S.Store.means c.args.self.now _ (recalled c.args.task c.args.serial c.in_ok-grant.grant.amount) s s.store
+    (record {
+      places = 0;
+      judged = sym (c.in_ok-grant.ensures.judged (store_means g.S.Store c.args.self.now));
+      answers = (sym (ap amount_in c.in_ok-grant.ensures.found), refl);
+      standing =
+          ap (λ x. record { reserves = c.args.self.now.reserves.rows; taps = c.args.self.now.taps.rows; grants = x; serials = c.mark.new.self.serials; ticks = c.args.self.now.ticks }) c.mark.ensures.after
+          ∙ ap (λ x. record { reserves = c.args.self.now.reserves.rows; taps = c.args.self.now.taps.rows; grants = marked false c.args.serial (open_in c.args.self.now.grants); serials = x; ticks = c.args.self.now.ticks }) c.mark.ensures.serials;
+      books = refl;
     })
 
-pub returns : goal.returns
-returns g c = record {
-  step = λ s. goes g.S.Store g.met.S.Store.means c.args.self.now _ (recalled c.args.task c.args.serial c.in_ok-grant.grant.amount) s s.store
-      (record {
-        places = 0;
-        judged = sym (c.in_ok-grant.ensures.judged (store_means g.S.Store c.args.self.now));
-        answers = (sym (ap amount_in c.in_ok-grant.ensures.found), refl);
-        standing =
-            ap (λ x. record { reserves = c.args.self.now.reserves.rows; taps = c.args.self.now.taps.rows; grants = x; serials = c.mark.new.self.serials; ticks = c.args.self.now.ticks }) c.mark.ensures.after
-            ∙ ap (λ x. record { reserves = c.args.self.now.reserves.rows; taps = c.args.self.now.taps.rows; grants = marked false c.args.serial (open_in c.args.self.now.grants); serials = x; ticks = c.args.self.now.ticks }) c.mark.ensures.serials;
-        books = refl;
-      });
-  same = tt;
-  judged = λ m. sym (c.in_ok-grant.ensures.judged m);
-  slip = (refl, recalled_out c.args.self.now.grants c.args.serial c.in_ok-grant.grant _ c.in_ok-grant.ensures.found c.mark.ensures.after);
-  after = record { others = refl; grants = c.mark.ensures.after; serials = c.mark.ensures.serials };
-}
+pub returns-clause-judged : goal.returns-clause-judged
+returns-clause-judged g c m = sym (c.in_ok-grant.ensures.judged m)
+
+pub returns-clause-slip : goal.returns-clause-slip
+returns-clause-slip g c = (refl, recalled_out c.args.self.now.grants c.args.serial c.in_ok-grant.grant _ c.in_ok-grant.ensures.found c.mark.ensures.after)

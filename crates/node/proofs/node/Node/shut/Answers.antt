@@ -6,26 +6,17 @@ use Rattle.node.specs.Node.{standing_of, store_means}
 use Rattle.node.proofs.Goes.{turned_away, goes}
 use Rattle.node.proofs.node.Node.shut.Goals as goal
 
-pub returns-in_err-may_shut : goal.returns-in_err-may_shut
-returns-in_err-may_shut g c =
+pub returns-in_err-may_shut-clause-step : goal.returns-in_err-may_shut-clause-step
+returns-in_err-may_shut-clause-step g c =
     let p = err_from_is_err_and c.from_residual.result c.from_residual.ensures.1 in
-    rw (p.1, p.2) (record {
-      step = turned_away g.S.Store c.args.self.now (shut_tap c.args.task c.args.tap) _
-          (sym (c.in_err-may_shut.ensures.judged (store_means g.S.Store c.args.self.now)));
-      same = refl;
-      store = refl;
-    })
+    rw (p.1, p.2) (turned_away g.S.Store c.args.self.now (shut_tap c.args.task c.args.tap) _ (sym (c.in_err-may_shut.ensures.judged (store_means g.S.Store c.args.self.now))))
 
-pub returns : goal.returns
-returns g c = record {
-  step = λ s. goes g.S.Store g.met.S.Store.means c.args.self.now _ (shut c.args.task c.args.tap) s s.store
-      (record {
-        places = 0;
-        judged = sym (c.in_ok-may_shut.ensures.judged (store_means g.S.Store c.args.self.now));
-        answers = refl;
-        standing = ap (with_taps (standing_of c.args.self.now)) c.close.ensures.after;
-        books = refl;
-      });
-  same = tt;
-  store = refl;
-}
+pub returns-clause-step : goal.returns-clause-step
+returns-clause-step g c s = goes g.S.Store g.met.S.Store.means c.args.self.now _ (shut c.args.task c.args.tap) s s.store
+    (record {
+      places = 0;
+      judged = sym (c.in_ok-may_shut.ensures.judged (store_means g.S.Store c.args.self.now));
+      answers = refl;
+      standing = ap (with_taps (standing_of c.args.self.now)) c.close.ensures.after;
+      books = refl;
+    })
