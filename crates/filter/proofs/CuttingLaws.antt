@@ -6,9 +6,9 @@ use Rattle.std.proofs.lemmas.Bool.Decides.{eqb_tells, leb_tells}
 use Rattle.memchr.specs.Find.{Nowhere, Passes, IsFirstByte, is_byte}
 use Rattle.frame.specs.declared.prefix.Prefix.{Prefix}
 use Rattle.frame.specs.Prefix.{cut, kept, HasRead}
-use Rattle.frame.proofs.PrefixLaws.{begins_all, take_least}
+use Rattle.frame.proofs.PrefixLaws.{begins_all}
 use Rattle.filter.specs.declared.script.Script.{Ghosts}
-use Rattle.filter.specs.Cutting.{further, place, lines_from, begun_from, Led, Fed}
+use Rattle.filter.specs.Cutting.{further, place, lines_from, begun_from, last, Led, Fed}
 
 other : (b : ℕ) (bs : List ℕ) → eqb b 10 ≡ false → place (b ∷ bs) ≡ further (place bs)
 other b bs ne = ap (λ t. cond t (Some 0) (further (place bs))) ne
@@ -101,23 +101,17 @@ pub shorter : (xs : List ℕ) (k n : ℕ) → length xs ≤ n → length (take (
 shorter xs k n h =
     let e : length (take (length xs - k) (drop k xs)) ≡ length xs - k = ap length (take_rest xs k) ∙ length-drop k xs in omega arith
 
--- a line of which nothing has been read yet
-pub fresh_line : (xs : List ℕ) → length xs ≡ 0 → xs ≡ []
-fresh_line [] e = refl
-fresh_line (x ∷ xs) e = absurd (omega arith)
-
-pub made_so : {T E P : Type 0} (r : Result T E) → P → IfOk r (λ _. P)
-made_so (Ok x) p = p
-made_so (Err e) p = tt
-
 module _ {S : Type 0} (G : Ghosts S) where
-  pub hears_cut :
-      {T E : Type 0} (r : Result T E) (s s' : S) (xs bs : List ℕ) (n : ℕ) → xs ≡ [] → n ≡ min (length bs) 81
-      → IfOk r (λ _. G.hears s (take (n - 0) bs) s') → IfOk r (λ _. G.hears s (cut (xs ++ bs)) s')
-  hears_cut r s s' xs bs n fresh least h =
-      let z : n - 0 ≡ n = omega arith in
-      let e : take (n - 0) bs ≡ cut (xs ++ bs) = ap (λ k. take k bs) z ∙ take_least 81 n bs least ∙ ap (λ t. cut (t ++ bs)) (sym fresh) in
-      subst (λ (t : List ℕ). IfOk r (λ _. G.hears s t s')) e h
+  -- the last line, of which something has been read
+  pub led_last :
+      {T E : Type 0} (r : Result T E) (s s' : S) (xs : List ℕ) (l : Prefix 81) → HasRead xs l → (length (kept l) ≡ 0 → ⊥)
+      → IfOk r (λ _. G.hears s (cut (kept l ++ [])) s') → IfOk r (λ _. Led G s (last xs) s')
+  led_last r s s' [] l read some h = absurd (some (ap length read))
+  led_last (Err e) s s' (x ∷ xs) l read some h = tt
+  led_last (Ok u) s s' (x ∷ xs) l read some h =
+      let line : cut (kept l ++ []) ≡ cut (x ∷ xs) =
+      begins_all 81 l (cut (kept l ++ [])) [] refl (x ∷ xs) read ∙ ap cut (append-nil (x ∷ xs)) in
+      (s', subst (λ k. G.hears s k s') line h, refl)
 
   led_more : (s : S) (ls : List (List ℕ)) (m s' : S) (l : List ℕ) → Led G s ls m → G.hears m (cut l) s' → Led G s (ls ++ l ∷ []) s'
   led_more s [] m s' l e h = (s', subst (λ k. G.hears k (cut l) s') e h, refl)

@@ -2,6 +2,7 @@
 --     place bs               the place of the first line feed in bs
 --     lines_from xs bs       the lines that end in bs, of which the first begins with xs
 --     begun_from xs bs       what has then been read of the next
+--     last xs                the line that the end of a script ends, where xs has been read of it; there is none where xs is empty
 --     Led G s ls s'          the lines ls, the first 81 bytes of each, lead one after the other from s to s'
 --     Fed G s xs bs s' l     where xs had been read of a line, the lines that end in bs lead from s to s', and l keeps what has been read of the next
 use Rattle.std.specs.Prelude.{◌≡◌, ℕ, ◌+◌, cond, List, [], ◌∷◌, ◌++◌, Some, None, Option, ◌==◌}
@@ -25,6 +26,10 @@ lines_from xs (b ∷ bs) = cond (b == 10) (xs ∷ lines_from [] bs) (lines_from 
 abbrev pub begun_from : List ℕ → List ℕ → List ℕ
 begun_from xs [] = xs
 begun_from xs (b ∷ bs) = cond (b == 10) (begun_from [] bs) (begun_from (xs ++ b ∷ []) bs)
+
+abbrev pub last : List ℕ → List (List ℕ)
+last [] = []
+last (x ∷ xs) = (x ∷ xs) ∷ []
 
 module _ {S : Type 0} (G : Ghosts S) where
   abbrev pub Led : S → List (List ℕ) → S → Type 0

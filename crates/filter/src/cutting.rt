@@ -1,14 +1,12 @@
 // How a script is cut into lines.
 ghost use Rattle.std.specs.Prelude.{◌≡◌, ℕ, ◌<◌, List, [], ◌++◌, length, IfSome, OnOk};
 ghost use Rattle.frame.specs.Prefix.{kept, cut, HasRead};
-ghost use Rattle.filter.specs.Cutting.{place, Fed};
+ghost use Rattle.filter.specs.Cutting.{place, last, Led, Fed};
 
 use crate::script::Script;
 use frame::Line;
 use memchr::memchr;
 use std::io;
-
-const KEPT: usize = 81;
 
 // The place of the first line feed.
 pub fn line_end(bytes: &[u8]) -> Option<usize>
@@ -18,29 +16,60 @@ pub fn line_end(bytes: &[u8]) -> Option<usize>
     memchr(b'\n', bytes)
 }
 
-// Hands over the line that ends with these bytes, and begins the next.
-fn finish<S: Script>(script: &mut S, line: &mut Line, end: &[u8]) -> io::Result<()>
-    ensures heard { OnOk result (S.Script.hears script.old (cut (kept line.old ++ end.now)) script.new) }
-    ensures after { OnOk result (kept line.new ≡ []) }
-{
-    if line.as_slice().is_empty() {
-        return script.line(&end[0..end.len().min(KEPT)]);
-    }
-    line.extend(end);
-    script.line(line.as_slice())?;
-    line.clear();
-    Ok(())
+// What takes the lines of a script, with what has been read of the next line.
+#[derive(Drop)]
+pub struct Cutter<'a, S: Script> {
+    pub(crate) script: &'a mut S,
+    line: Line,
 }
 
-// Hands over every line that ends in a piece of the script, and keeps what has been read of the next.
-pub fn feed<S: Script>(script: &mut S, line: &mut Line, piece: &[u8]) -> io::Result<()>
-    ensures fed { (xs : List ℕ) → HasRead xs line.old → OnOk result (Fed (S.Script) script.old xs piece.now script.new line.new) }
-{
-    let mut rest = piece;
-    while let Some(end) = line_end(rest) {
-        finish(script, line, &rest[0..end])?;
-        rest = &rest[end + 1..];
+impl<'a, S: Script> Cutter<'a, S> {
+    // Nothing has been read yet.
+    pub fn new(script: &'a mut S) -> Cutter<'a, S>
+        ensures same { result.script.ghost_name ≡ script.entry.ghost_name }
+        ensures script { result.script.now ≡ script.old }
+        ensures line { HasRead [] result.line }
+    {
+        Cutter {
+            script,
+            line: Line::new(),
+        }
     }
-    line.extend(rest);
-    Ok(())
+
+    // Hands over the line that ends with these bytes, and begins the next.
+    fn finish(&mut self, end: &[u8]) -> io::Result<()>
+        ensures same { self.new.script.ghost_name ≡ self.old.script.ghost_name }
+        ensures heard { OnOk result (S.Script.hears self.old.script.now (cut (kept self.old.line ++ end.now)) self.new.script.now) }
+        ensures after { OnOk result (kept self.new.line ≡ []) }
+    {
+        self.line.extend(end);
+        self.script.line(self.line.as_slice())?;
+        self.line.clear();
+        Ok(())
+    }
+
+    // Hands over every line that ends in a piece of the script, and keeps what has been read of the next.
+    pub fn feed(&mut self, piece: &[u8]) -> io::Result<()>
+        ensures same { self.new.script.ghost_name ≡ self.old.script.ghost_name }
+        ensures fed { (xs : List ℕ) → HasRead xs self.old.line → OnOk result (Fed (S.Script) self.old.script.now xs piece.now self.new.script.now self.new.line) }
+    {
+        let mut rest = piece;
+        while let Some(end) = line_end(rest) {
+            self.finish(&rest[0..end])?;
+            rest = &rest[end + 1..];
+        }
+        self.line.extend(rest);
+        Ok(())
+    }
+
+    // The script has ended: hands over the last line, if it is not empty.
+    pub fn end(&mut self) -> io::Result<()>
+        ensures same { self.new.script.ghost_name ≡ self.old.script.ghost_name }
+        ensures heard { (xs : List ℕ) → HasRead xs self.old.line → OnOk result (Led (S.Script) self.old.script.now (last xs) self.new.script.now) }
+    {
+        if self.line.as_slice().is_empty() {
+            return Ok(());
+        }
+        self.finish(&[])
+    }
 }
