@@ -18,6 +18,7 @@ use Rattle.store.specs.declared.store.Store.{Ghosts}
 use Rattle.store.specs.declared.capacitor.Capacitor.{Capacitor}
 use Rattle.store.specs.Capacitor.{new_capacitor, capacitor_store}
 use Rattle.store.specs.Bank.{new_bank, bank_store}
+use Rattle.layers.specs.declared.layered.Layered.{Layered as Over}
 use Rattle.layers.specs.declared.floor.Floor.{Floor}
 use Rattle.layers.specs.declared.leakage.Leakage.{Leakage}
 use Rattle.layers.specs.Floor.{floor_store}
@@ -43,7 +44,7 @@ use Rattle.simulator.specs.declared.simulator.Simulator.{Simulator}
 use Rattle.simulator.specs.declared.simulator.Simulator.TheVariants.{Empty, Single, Layered, Cells}
 
 abbrev pub Layers : Type 0
-Layers = Leakage (Floor Capacitor)
+Layers = Over (Over Capacitor Floor) Leakage
 
 abbrev pub layered_store : Ghosts Layers
 layered_store = leakage_store (floor_store capacitor_store)
@@ -59,12 +60,12 @@ Reached (Cells n) = ReachedOn bank_store n
 
 -- the frames that build
 
-abbrev pub without_floor : Result Layers (Outside × Floor Capacitor) → Result Layers Outside
-without_floor (Ok l) = Ok l
-without_floor (Err e) = Err e.0
+abbrev pub with_leakage : ℕ → Capacitor → Result Leakage Outside → Result Layers Outside
+with_leakage f x (Ok l) = Ok (record { below = record { below = x; layer = record { amount = f } }; layer = l })
+with_leakage f x (Err e) = Err e
 
 abbrev pub layered_of : ℕ → ℕ → ℕ → Result Layers Outside
-layered_of c f p = elim (new_capacitor c) [ Ok x ↦ without_floor (new_leakage (record { below = x; amount = f }) p) | Err e ↦ Err e ]
+layered_of c f p = elim (new_capacitor c) [ Ok x ↦ with_leakage f x (new_leakage p) | Err e ↦ Err e ]
 
 -- a store that can be built is sound, and a new node stands over it
 abbrev pub Builds : {S : Type 0} → Ghosts S → (Node S → Simulator) → Result S Outside → Result Simulator FrameFault → Type 0

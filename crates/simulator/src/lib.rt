@@ -4,4 +4,4 @@
 mod serve;
 mod simulator;
 
-pub use simulator::Simulator;
+pub use simulator::{Layers, Simulator};

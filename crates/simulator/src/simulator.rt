@@ -5,31 +5,31 @@ ghost use Rattle.simulator.specs.declared.simulator.Simulator.TheVariants.{Empty
 
 use crate::serve::serve;
 use frame::{Answer, Frame, FrameFault, ROOM, decode, write_answer};
-use layers::{Floor, Leakage};
+use layers::{Floor, Layer, Layered, Leakage};
 use node::Node;
 use rates::OutOfRange;
 use store::{Bank, Capacitor};
+
+// A capacitor under a floor under leakage.
+pub type Layers = Layered<Layered<Capacitor, Floor>, Leakage>;
 
 #[derive(Drop)]
 pub enum Simulator {
     // No frame has built a node yet.
     Empty,
     Single(Node<Capacitor>),
-    // A capacitor under a floor under leakage.
-    Layered(Node<Leakage<Floor<Capacitor>>>),
+    Layered(Node<Layers>),
     Cells(Node<Bank>),
 }
 
 // A capacitor under a floor under leakage.
-fn layers(capacity: u32, floor: u32, part: u16) -> Result<Leakage<Floor<Capacitor>>, OutOfRange>
+fn layers(capacity: u32, floor: u32, part: u16) -> Result<Layers, OutOfRange>
     ensures result { result ≡ layered_of capacity floor part }
     ensures sound { IfOk result layered_store.sound }
 {
     let capacitor = Capacitor::new(capacity)?;
-    match Leakage::new(Floor::new(capacitor, floor), part) {
-        Ok(leakage) => Ok(leakage),
-        Err((out, _)) => Err(out),
-    }
+    let leakage = Leakage::new(part)?;
+    Ok(leakage.over(Floor::new(floor).over(capacitor)))
 }
 
 // What a frame builds where no node stands.
