@@ -20,6 +20,7 @@ use Rattle.store.specs.declared.bank.Bank.{Bank}
 use Rattle.store.specs.Capacitor.{new_capacitor, capacitor_store}
 use Rattle.store.specs.Bank.{new_bank, bank_store}
 use Rattle.layers.specs.declared.floor.Floor.{Floor}
+use Rattle.layers.specs.declared.layered.Layered.{Layered as LayeredStore}
 use Rattle.layers.specs.declared.leakage.Leakage.{Leakage}
 use Rattle.layers.specs.Floor.{floor_store}
 use Rattle.layers.specs.Leakage.{new_leakage, leakage_store}
@@ -44,7 +45,7 @@ use Rattle.simulator.specs.declared.simulator.Simulator.{Simulator}
 use Rattle.simulator.specs.declared.simulator.Simulator.TheVariants.{Empty, Single, Layered, Cells}
 
 abbrev pub Layers : Type 0
-Layers = Leakage (Floor Capacitor)
+Layers = LayeredStore (LayeredStore Capacitor Floor) Leakage
 
 abbrev pub layered_store : Ghosts Layers
 layered_store = leakage_store (floor_store capacitor_store)
@@ -63,12 +64,12 @@ Reached (Cells n) = ReachedOn bank_store n
 abbrev pub single_of : ℕ → Result Capacitor Outside
 single_of c = new_capacitor c
 
-abbrev pub without_floor : Result Layers (Outside × Floor Capacitor) → Result Layers Outside
-without_floor (Ok l) = Ok l
-without_floor (Err e) = Err e.0
+abbrev pub under_leakage : LayeredStore Capacitor Floor → Result Leakage Outside → Result Layers Outside
+under_leakage x (Ok l) = Ok (record { below = x; layer = l })
+under_leakage x (Err e) = Err e
 
 abbrev pub layered_of : ℕ → ℕ → ℕ → Result Layers Outside
-layered_of c f p = elim (new_capacitor c) [ Ok x ↦ without_floor (new_leakage (record { below = x; amount = f }) p) | Err e ↦ Err e ]
+layered_of c f p = elim (new_capacitor c) [ Ok x ↦ under_leakage (record { below = x; layer = record { amount = f } }) (new_leakage p) | Err e ↦ Err e ]
 
 abbrev pub cells_of : List ℕ → Result Bank Outside
 cells_of cs = new_bank cs

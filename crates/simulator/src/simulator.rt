@@ -7,7 +7,7 @@ ghost use Rattle.simulator.specs.declared.simulator.Simulator.TheVariants.{Empty
 
 use crate::serve::serve;
 use frame::{Answer, Frame, FrameFault, decode, write_answer};
-use layers::{Floor, Leakage};
+use layers::{Floor, Layer, Layered, Leakage};
 use node::{Denial, Node};
 use rates::OutOfRange;
 use store::{Bank, Capacitor};
@@ -20,7 +20,7 @@ pub enum Simulator {
     Empty,
     Single(Node<Capacitor>),
     // A capacitor under a floor under leakage.
-    Layered(Node<Leakage<Floor<Capacitor>>>),
+    Layered(Node<Layered<Layered<Capacitor, Floor>, Leakage>>),
     Cells(Node<Bank>),
 }
 
@@ -32,15 +32,17 @@ fn single(capacity: u32) -> Result<Simulator, OutOfRange>
     Ok(Simulator::Single(Node::new(capacitor)))
 }
 
-fn layers(capacity: u32, floor: u32, part: u16) -> Result<Leakage<Floor<Capacitor>>, OutOfRange>
+fn layers(
+    capacity: u32,
+    floor: u32,
+    part: u16,
+) -> Result<Layered<Layered<Capacitor, Floor>, Leakage>, OutOfRange>
     ensures result { result ≡ layered_of capacity floor part }
     ensures sound { IfOk result layered_store.sound }
 {
     let capacitor = Capacitor::new(capacity)?;
-    match Leakage::new(Floor::new(capacitor, floor), part) {
-        Ok(leakage) => Ok(leakage),
-        Err((out, _)) => Err(out),
-    }
+    let leakage = Leakage::new(part)?;
+    Ok(leakage.over(Floor::new(floor).over(capacitor)))
 }
 
 // A node over a capacitor under a floor under leakage.
