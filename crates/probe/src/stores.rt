@@ -3,7 +3,7 @@ ghost use Rattle.std.specs.Prelude.{IfErr, ◌≡◌, ◌-◌};
 ghost use Rattle.probe.specs.Failure.{IsLetGo};
 
 use crate::failure::Failure;
-use layers::{Floor, Leakage};
+use layers::{Floor, Layer, Leakage};
 use node::Node;
 use store::{Bank, Capacitor, Store};
 
@@ -68,11 +68,9 @@ pub fn tell_bank(rt: &impl Print) -> Result<(), Failure>
 {
     let mut bank = Bank::new(&[5, 3, 2])?;
     let taken = bank.charge(7);
-    let cells = bank.cells();
-    println!(rt; "A bank with cells of 5, 3 and 2 takes in {taken} and holds {cells:?}.")?;
+    println!(rt; "A bank with cells of 5, 3 and 2 takes in {taken} and holds {bank}.")?;
     bank.draw(3)?;
-    let cells = bank.cells();
-    println!(rt; "After a draw of 3 it holds {cells:?}.")?;
+    println!(rt; "After a draw of 3 it holds {bank}.")?;
     tell_settlement(rt, bank)
 }
 
@@ -80,11 +78,8 @@ pub fn tell_layers(rt: &impl Print) -> Result<(), Failure>
     ensures kept { IfErr result IsLetGo }
 {
     println!(rt; "A capacitor of 25 stands under a floor of 4, under a leakage of 1000 parts.")?;
-    let floor = Floor::new(Capacitor::new(25)?, 4);
-    let leakage = match Leakage::new(floor, 1_000) {
-        Ok(leakage) => leakage,
-        Err((out, _)) => return Err(out.into()),
-    };
+    let floor = Floor::new(4).over(Capacitor::new(25)?);
+    let leakage = Leakage::new(1_000)?.over(floor);
     let mut node = Node::new(leakage);
     tick(rt, &mut node, 25)?;
     tick(rt, &mut node, 0)?;

@@ -4,12 +4,13 @@
 use Rattle.std.specs.Prelude.{◌≡◌, ◌+◌}
 use Rattle.store.specs.declared.store.Store.{Ghosts}
 use Rattle.node.specs.declared.totals.Totals.{Totals}
+use Rattle.layers.specs.declared.layered.Layered.{Layered}
 use Rattle.guide.specs.declared.battery.Battery.{Battery}
 use Rattle.guide.specs.declared.standby.Standby.{Standby}
 use Rattle.guide.specs.Battery.{battery_store}
 use Rattle.guide.specs.Standby.{standby_store}
 
-abbrev pub supply_store : Ghosts (Standby Battery)
+abbrev pub supply_store : Ghosts (Layered Battery Standby)
 supply_store = standby_store battery_store
 
 abbrev pub Balanced : Totals → Type 0

@@ -10,6 +10,7 @@ mod failure;
 
 use failure::Failure;
 use guide::{Battery, Standby};
+use layers::{Layer, Layered};
 use node::{Denial, Node, Totals};
 use rates::OutOfRange;
 use std::process::ExitCode;
@@ -28,11 +29,11 @@ const RADIO_TAP: u8 = 0;
 const TAPS: usize = 96;
 
 // A node over a full battery with a standby current.
-fn powered(capacity: u32, standby: u32) -> Result<Node<Standby<Battery>>, OutOfRange>
+fn powered(capacity: u32, standby: u32) -> Result<Node<Layered<Battery, Standby>>, OutOfRange>
     ensures run { IfOk result (Reached supply_store) }
 {
     let battery = Battery::new(capacity)?;
-    let supply = Standby::new(battery, standby);
+    let supply = Standby::new(standby).over(battery);
     let node = Node::new(supply);
     Ok(node)
 }
@@ -103,7 +104,7 @@ fn send<S: Store>(node: &mut Node<S>, serial: u32, used: u32) -> Result<u32, Fai
 }
 
 // The law holds over this store too.
-fn audit(node: &Node<Standby<Battery>>) -> Totals
+fn audit(node: &Node<Layered<Battery, Standby>>) -> Totals
     ensures law { Lawful supply_store node.now result }
 {
     node.audit()

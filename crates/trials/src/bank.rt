@@ -32,15 +32,9 @@ fn cells(tally: &mut Tally<'_>) {
         return;
     };
     let _ = bank.charge(7);
-    let filled = bank.cells();
-    tally.hold(
-        "cells 5, 3, 2 charged with 7",
-        "[5, 2, 0]",
-        format_args!("{filled:?}"),
-    );
+    tally.hold("cells 5, 3, 2 charged with 7", "[5, 2, 0]", &bank);
     let _ = bank.draw(3);
-    let left = bank.cells();
-    tally.hold("then draw 3", "[4, 0, 0]", format_args!("{left:?}"));
+    tally.hold("then draw 3", "[4, 0, 0]", &bank);
 }
 
 fn edges(tally: &mut Tally<'_>) {

@@ -2,7 +2,7 @@
 use crate::call::{Call, script};
 use crate::capacitor::charged;
 use crate::tally::Tally;
-use layers::Floor;
+use layers::{Floor, Layer, Layered};
 use rates::OutOfRange;
 
 const OVER_SIX: &[(Call, &str)] = &[
@@ -25,8 +25,11 @@ const ABOVE: &[(Call, &str)] = &[
 ];
 
 // A floor over the store, if there is one.
-pub fn floored<S>(below: Result<S, OutOfRange>, amount: u32) -> Result<Floor<S>, OutOfRange> {
-    Ok(Floor::new(below?, amount))
+pub fn floored<S>(
+    below: Result<S, OutOfRange>,
+    amount: u32,
+) -> Result<Layered<S, Floor>, OutOfRange> {
+    Ok(Floor::new(amount).over(below?))
 }
 
 pub fn run(tally: &mut Tally<'_>) {

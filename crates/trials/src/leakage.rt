@@ -4,7 +4,7 @@ use crate::capacitor::charged;
 use crate::floor::floored;
 use crate::shown::refusal;
 use crate::tally::Tally;
-use layers::Leakage;
+use layers::{Layer, Layered, Leakage};
 use rates::OutOfRange;
 
 const FIGURE: &[(Call, &str)] = &[
@@ -32,11 +32,12 @@ const DEEP: &[(Call, &str)] = &[
 const TWICE: &[(Call, &str)] = &[(Call::Tick, "19"), (Call::Held, "81")];
 
 // Leakage over the store, if there is one and the part is in its range.
-fn leaking<S: Drop>(below: Result<S, OutOfRange>, part: u16) -> Result<Leakage<S>, OutOfRange> {
-    match Leakage::new(below?, part) {
-        Ok(leakage) => Ok(leakage),
-        Err((out, _)) => Err(out),
-    }
+fn leaking<S: Drop>(
+    below: Result<S, OutOfRange>,
+    part: u16,
+) -> Result<Layered<S, Leakage>, OutOfRange> {
+    let below = below?;
+    Ok(Leakage::new(part)?.over(below))
 }
 
 pub fn run(tally: &mut Tally<'_>) {
