@@ -4,7 +4,7 @@ ghost use Rattle.node.specs.Node.{SoundNode};
 ghost use Rattle.simulator.specs.Simulator.{done as done_of, told as told_of, Grants, Settles, ServesOn};
 
 use frame::{Answer, Frame, FrameFault};
-use node::{Denial, Node};
+use node::{Denial, NewReserve, NewTap, Node};
 use store::Store;
 
 const TAPS: usize = 96;
@@ -82,7 +82,16 @@ pub(crate) fn serve<S: Store>(node: &mut Node<S>, frame: Frame) -> Result<Answer
             owner,
             limit,
             amount,
-        } => done(node.open(task, parent, number, owner, limit, amount)),
+        } => {
+            let reserve = NewReserve {
+                parent,
+                number,
+                owner,
+                limit,
+                amount,
+            };
+            done(node.open(task, reserve))
+        }
         Frame::Close { task, number } => done(node.close(task, number)),
         Frame::Tap {
             task,
@@ -91,7 +100,16 @@ pub(crate) fn serve<S: Store>(node: &mut Node<S>, frame: Frame) -> Result<Answer
             sink,
             n,
             d,
-        } => done(node.tap(task, tap, source, sink, n, u32::from(d))),
+        } => {
+            let tap = NewTap {
+                number: tap,
+                source,
+                sink,
+                n,
+                d: u32::from(d),
+            };
+            done(node.tap(task, tap))
+        }
         Frame::Shut { task, tap } => done(node.shut(task, tap)),
         Frame::Grant {
             task,
