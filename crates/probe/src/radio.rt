@@ -5,7 +5,7 @@ ghost use Rattle.probe.specs.Failure.{IsLetGo};
 
 use crate::failure::Failure;
 use crate::tally::Tally;
-use node::{Denial, Node, Slip};
+use node::{Denial, NewReserve, NewTap, Node, Slip};
 use store::{Capacitor, Store};
 
 const CAPACITY: u32 = 100_000;
@@ -133,8 +133,22 @@ pub fn tell(rt: &impl Print) -> Result<(), Failure>
         "Its radio is fed 1 quantum in {TICKS_A_QUANTUM} ticks, and a send takes {SEND} quanta."
     )?;
     let mut node = Node::new(Capacitor::new(CAPACITY)?);
-    node.open(ROOT_TASK, ROOT, RADIO, RADIO_TASK, RADIO_LIMIT, 0)?;
-    node.tap(ROOT_TASK, RADIO_TAP, ROOT, RADIO, 1, TICKS_A_QUANTUM)?;
+    let radio = NewReserve {
+        parent: ROOT,
+        number: RADIO,
+        owner: RADIO_TASK,
+        limit: RADIO_LIMIT,
+        amount: 0,
+    };
+    node.open(ROOT_TASK, radio)?;
+    let feed = NewTap {
+        number: RADIO_TAP,
+        source: ROOT,
+        sink: RADIO,
+        n: 1,
+        d: TICKS_A_QUANTUM,
+    };
+    node.tap(ROOT_TASK, feed)?;
     let mut tally = Tally::new();
     for _ in 0..TICKS {
         turn(&mut node, &mut tally)?;

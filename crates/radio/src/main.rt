@@ -11,7 +11,7 @@ mod failure;
 use failure::Failure;
 use guide::{Battery, Standby};
 use layers::{Layer, Layered};
-use node::{Denial, Node, Totals};
+use node::{Denial, NewReserve, NewTap, Node, Totals};
 use rates::OutOfRange;
 use std::process::ExitCode;
 use store::Store;
@@ -42,8 +42,22 @@ fn powered(capacity: u32, standby: u32) -> Result<Node<Layered<Battery, Standby>
 fn feed_radio<S: Store>(node: &mut Node<S>) -> Result<(), Denial>
     ensures run { Reached (S.Store) node.old → Reached (S.Store) node.new }
 {
-    node.open(ROOT_TASK, ROOT, RADIO, RADIO_TASK, 50, 0)?;
-    node.tap(ROOT_TASK, RADIO_TAP, ROOT, RADIO, 5, 1)
+    let radio = NewReserve {
+        parent: ROOT,
+        number: RADIO,
+        owner: RADIO_TASK,
+        limit: 50,
+        amount: 0,
+    };
+    node.open(ROOT_TASK, radio)?;
+    let feed = NewTap {
+        number: RADIO_TAP,
+        source: ROOT,
+        sink: RADIO,
+        n: 5,
+        d: 1,
+    };
+    node.tap(ROOT_TASK, feed)
 }
 
 // So many ticks without a harvest: what they lost.
