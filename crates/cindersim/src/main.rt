@@ -1,18 +1,18 @@
 // Reads frames from standard input, one to a line, and writes one answer line for each.
 #![tactic(auto)]
 
-ghost use Rattle.std.specs.Prelude.{◌≡◌, ◌≤◌, Result, IfOk, OnOk};
+ghost use Rattle.std.specs.Prelude.{◌≡◌, [], Result, OnOk};
 ghost use Rattle.frame.specs.declared.answer.Answer.{Answer};
 ghost use Rattle.frame.specs.declared.fault.FrameFault.{FrameFault};
 ghost use Rattle.simulator.specs.Simulator.{Replies};
 
+use arrayvec::ArrayVec;
 use filter::Script;
+use frame::ROOM;
 use simulator::Simulator;
 use std::io;
 use std::io::{Stdout, Write};
 use std::process::ExitCode;
-
-const ROOM: usize = 160;
 
 const HELD: usize = 65_536;
 
@@ -51,38 +51,22 @@ An accepted frame is answered 00 and the fields told, a refused one its number:
                                        a stage of the store lacks so much
 ";
 
-// The most that is held of the answers before they are written: there is room for one more.
-const FULL: usize = HELD - ROOM;
-
 // A simulator, with the answers that are not written yet.
 #[derive(Drop)]
 struct Session {
     simulator: Simulator,
     output: Stdout,
-    answers: [u8; HELD],
-    len: usize,
-    ghost within: { len ≤ 65536 },
+    answers: ArrayVec<u8, HELD>,
 }
 
 impl Session {
     // Writes the answers that are held.
     fn write(&mut self) -> io::Result<()>
-        ensures after { OnOk result (self.new.len ≡ 0) }
+        ensures after { OnOk result (self.new.answers.items ≡ []) }
         ensures same { self.new.simulator ≡ self.old.simulator }
     {
-        self.output.write_all(&self.answers[..self.len])?;
-        self.len = 0;
-        Ok(())
-    }
-
-    // Writes the answers that are held, where there is no room for one more.
-    fn make_room(&mut self) -> io::Result<()>
-        ensures within { OnOk result (self.new.len ≤ 65376) }
-        ensures same { self.new.simulator ≡ self.old.simulator }
-    {
-        if self.len > FULL {
-            self.write()?;
-        }
+        self.output.write_all(&self.answers)?;
+        self.answers.clear();
         Ok(())
     }
 }
@@ -92,9 +76,12 @@ impl Script for Session {
     ghost hears = { λ s line s'. (a : Result Answer FrameFault) × Replies s.simulator line a s'.simulator };
 
     fn line(&mut self, line: &[u8]) -> io::Result<()> {
-        self.make_room()?;
-        if let Ok(len) = self.simulator.answer(line, &mut self.answers[self.len..]) {
-            self.len += len;
+        if self.answers.remaining_capacity() < ROOM {
+            self.write()?;
+        }
+        let mut answer = [0; ROOM];
+        if let Ok(len) = self.simulator.answer(line, &mut answer) {
+            self.answers.try_extend_from_slice(&answer[..len]).unwrap();
         }
         Ok(())
     }
@@ -108,8 +95,7 @@ fn main(rt: HostRuntime) -> ExitCode {
     let mut session = Session {
         simulator: Simulator::new(),
         output: rt.stdout(),
-        answers: [0; HELD],
-        len: 0,
+        answers: ArrayVec::new(),
     };
     filter::run(&rt, "cindersim", HELP, &mut session)
 }
