@@ -29,11 +29,15 @@ impl Lack {
         ensures result { result ≡ lack_of reply.now }
     {
         match reply {
-            Err(FrameFault::Denied(Denial::LevelTooLow {
-                task,
-                reserve,
-                deficit,
-            })) => Some(Lack {
+            Err(
+                FrameFault::Denied(
+                    Denial::LevelTooLow {
+                        task,
+                        reserve,
+                        deficit,
+                    },
+                ),
+            ) => Some(Lack {
                 shortage: Shortage::Level,
                 task: *task,
                 reserve: *reserve,

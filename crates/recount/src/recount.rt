@@ -27,10 +27,7 @@ impl Recount {
     }
 
     // The recount of all these answers.
-    pub fn of(
-        heap: Global,
-        replies: &[Result<Answer, FrameFault>],
-    ) -> Result<Recount, AllocError>
+    pub fn of(heap: Global, replies: &[Result<Answer, FrameFault>]) -> Result<Recount, AllocError>
         ensures counts { IfOk result (Counts replies.now) }
     {
         let mut recount = Recount::new(heap)?;
