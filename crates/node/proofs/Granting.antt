@@ -45,10 +45,7 @@ module _ (m : Meaning) (s : Standing) (task reserve amount : ℕ) where
   asked_store e = first_none (request_tests s task reserve amount) ((ltb (top m.stages) amount, StoreRefused (record { task = task; reserve = reserve; fault = fault_from 0 amount m.stages })) ∷ []) e
 
   same_overdraw : (o : Overdraw) → o.task ≡ task → o.reserve ≡ reserve → o.fault ≡ fault_from 0 amount m.stages → record { task = task; reserve = reserve; fault = fault_from 0 amount m.stages } ≡ o
-  same_overdraw o et er ef =
-      ap (λ x. record { task = x; reserve = reserve; fault = fault_from 0 amount m.stages }) (sym et)
-      ∙ ap (λ x. record { task = o.task; reserve = x; fault = fault_from 0 amount m.stages }) (sym er)
-      ∙ ap (λ x. record { task = o.task; reserve = o.reserve; fault = x }) (sym ef)
+  same_overdraw o et er ef = rw (← et, ← er, ← ef) refl
 
   pub store_refused : (o : Overdraw) (m' : Meaning) → first_of (request_tests s task reserve amount) ≡ None → o.task ≡ task → o.reserve ≡ reserve → Drawn amount m (Err o.fault) m' → turned_down m s (request task reserve amount) ≡ Some (StoreRefused o)
   store_refused o m' clear et er d =
@@ -65,14 +62,12 @@ module _ (m : Meaning) (s : Standing) (task reserve amount : ℕ) where
       ∙ ap (λ x. cond x (Some (StoreRefused (record { task = task; reserve = reserve; fault = fault_from 0 amount m.stages }))) None) (le-ltb (top m.stages) amount d.0) in
       let f = facts m s b (granted task reserve amount serial) m' 0 sound judged (next, d.1) in
       let g : Grant = record { serial = serial; amount = amount; reserve = reserve; parked = false } in
+      let more : gs ≡ s.grants ++ g ∷ [] = adds ∙ ap (λ x. cond x (s.grants ++ g ∷ []) s.grants) (lt-ltb (length s.grants) 64 f.few) in
       record {
         places = 0;
         judged = judged;
         answers = (next, d.1);
-        standing =
-            ap (λ x. record { reserves = x; taps = s.taps; grants = gs; serials = serials; ticks = s.ticks }) lowered
-            ∙ ap (λ x. record { reserves = lower s.reserves reserve amount; taps = s.taps; grants = x; serials = serials; ticks = s.ticks }) (adds ∙ ap (λ x. cond x (s.grants ++ g ∷ []) s.grants) (lt-ltb (length s.grants) 64 f.few))
-            ∙ ap (λ x. record { reserves = lower s.reserves reserve amount; taps = s.taps; grants = s.grants ++ g ∷ []; serials = x; ticks = s.ticks }) counts;
+        standing = cc;
         books = books ∙ granted_exact s b w.few w.well.serials w.well.ticks task reserve amount serial f.most;
       }
 
