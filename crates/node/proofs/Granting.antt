@@ -1,5 +1,5 @@
 -- A grant: the tables and the store together decide it.
-use Rattle.std.proofs.Common.{◌≡◌, ℕ, ◌+◌, ◌<◌, min, Bool, true, false, cond, ◌&&◌, ltb, List, [], ◌∷◌, ◌++◌, length, Some, None, Ok, Err, sym, refl, ap, ◌∙◌, arith, le-ltb, lt-ltb, eq-eqb}
+use Rattle.std.proofs.Common.{◌≡◌, ℕ, ◌+◌, ◌<◌, min, Bool, true, false, cond, ◌&&◌, ltb, List, [], ◌∷◌, ◌++◌, length, Some, None, Ok, sym, refl, ap, ◌∙◌, arith, le-ltb, lt-ltb, eq-eqb}
 use Rattle.store.specs.Meaning.{Meaning, Sound, top, fault_from, Drawn}
 use Rattle.tables.specs.declared.grants.Grant.{Grant}
 use Rattle.tables.specs.declared.books.Books.{Books}
@@ -10,7 +10,6 @@ use Rattle.tables.proofs.GrantLaws.{grant_of_added}
 use Rattle.tables.specs.Books.{count_grant}
 use Rattle.node.specs.declared.denial.Denial.{Denial}
 use Rattle.node.specs.declared.denial.Denial.TheVariants.{StoreRefused}
-use Rattle.node.specs.declared.denial.Overdraw.{Overdraw}
 use Rattle.node.specs.Standing.{Standing}
 use Rattle.node.specs.Calls.{request, granted}
 use Rattle.node.specs.Rules.{first_of, request_tests, turned_down}
@@ -20,15 +19,7 @@ use Rattle.node.proofs.Places.{none_some}
 use Rattle.node.proofs.Facts.{cleared, facts}
 use Rattle.node.proofs.Counting.{granted_exact}
 
--- a test that holds decides, whatever is tested after it
-first_some : (cs ds : List (Bool × Denial)) (d : Denial) → first_of cs ≡ Some d → first_of (cs ++ ds) ≡ Some d
-first_some [] ds d e = absurd (none_some e)
-first_some (c ∷ cs) ds d e = go c.0 (first_some cs ds d) e
-  where
-    go : (b : Bool) → (first_of cs ≡ Some d → first_of (cs ++ ds) ≡ Some d) → cond b (Some c.1) (first_of cs) ≡ Some d → cond b (Some c.1) (first_of (cs ++ ds)) ≡ Some d
-    go true later e = e
-    go false later e = later e
-
+-- a test that does not hold leaves it to those after it
 first_none : (cs ds : List (Bool × Denial)) → first_of cs ≡ None → first_of (cs ++ ds) ≡ first_of ds
 first_none [] ds e = refl
 first_none (c ∷ cs) ds e = go c.0 (first_none cs ds) e
@@ -38,23 +29,8 @@ first_none (c ∷ cs) ds e = go c.0 (first_none cs ds) e
     go false later e = later e
 
 module _ (m : Meaning) (s : Standing) (task reserve amount : ℕ) where
-  pub request_refused : (d : Denial) → first_of (request_tests s task reserve amount) ≡ Some d → turned_down m s (request task reserve amount) ≡ Some d
-  request_refused d e = first_some (request_tests s task reserve amount) ((ltb (top m.stages) amount, StoreRefused (record { task = task; reserve = reserve; fault = fault_from 0 amount m.stages })) ∷ []) d e
-
   asked_store : first_of (request_tests s task reserve amount) ≡ None → turned_down m s (request task reserve amount) ≡ cond (ltb (top m.stages) amount) (Some (StoreRefused (record { task = task; reserve = reserve; fault = fault_from 0 amount m.stages }))) None
   asked_store e = first_none (request_tests s task reserve amount) ((ltb (top m.stages) amount, StoreRefused (record { task = task; reserve = reserve; fault = fault_from 0 amount m.stages })) ∷ []) e
-
-  same_overdraw : (o : Overdraw) → o.task ≡ task → o.reserve ≡ reserve → o.fault ≡ fault_from 0 amount m.stages → record { task = task; reserve = reserve; fault = fault_from 0 amount m.stages } ≡ o
-  same_overdraw o et er ef =
-      ap (λ x. record { task = x; reserve = reserve; fault = fault_from 0 amount m.stages }) (sym et)
-      ∙ ap (λ x. record { task = o.task; reserve = x; fault = fault_from 0 amount m.stages }) (sym er)
-      ∙ ap (λ x. record { task = o.task; reserve = o.reserve; fault = x }) (sym ef)
-
-  pub store_refused : (o : Overdraw) (m' : Meaning) → first_of (request_tests s task reserve amount) ≡ None → o.task ≡ task → o.reserve ≡ reserve → Drawn amount m (Err o.fault) m' → turned_down m s (request task reserve amount) ≡ Some (StoreRefused o)
-  store_refused o m' clear et er d =
-      asked_store clear
-      ∙ ap (λ b. cond b (Some (StoreRefused (record { task = task; reserve = reserve; fault = fault_from 0 amount m.stages }))) None) (lt-ltb (top m.stages) amount d.0)
-      ∙ ap (λ x. Some (StoreRefused x)) (same_overdraw o et er d.1)
 
   pub grant_step : (b b' : Books) (m' : Meaning) (rs : ReserveRows) (gs : List Grant) (serial serials : ℕ) → Sound m → Whole (record { store = m; standing = s; books = b }) → first_of (request_tests s task reserve amount) ≡ None → Drawn amount m (Ok tt) m'
       → rs ≡ lower s.reserves reserve amount → serial ≡ min (s.serials + 1) 4294967295 → gs ≡ added (record { serial = serial; amount = amount; reserve = reserve; parked = false }) s.grants → serials ≡ serial → b' ≡ count_grant amount b
@@ -65,14 +41,12 @@ module _ (m : Meaning) (s : Standing) (task reserve amount : ℕ) where
       ∙ ap (λ x. cond x (Some (StoreRefused (record { task = task; reserve = reserve; fault = fault_from 0 amount m.stages }))) None) (le-ltb (top m.stages) amount d.0) in
       let f = facts m s b (granted task reserve amount serial) m' 0 sound judged (next, d.1) in
       let g : Grant = record { serial = serial; amount = amount; reserve = reserve; parked = false } in
+      let more : gs ≡ s.grants ++ g ∷ [] = adds ∙ ap (λ x. cond x (s.grants ++ g ∷ []) s.grants) (lt-ltb (length s.grants) 64 f.few) in
       record {
         places = 0;
         judged = judged;
         answers = (next, d.1);
-        standing =
-            ap (λ x. record { reserves = x; taps = s.taps; grants = gs; serials = serials; ticks = s.ticks }) lowered
-            ∙ ap (λ x. record { reserves = lower s.reserves reserve amount; taps = s.taps; grants = x; serials = serials; ticks = s.ticks }) (adds ∙ ap (λ x. cond x (s.grants ++ g ∷ []) s.grants) (lt-ltb (length s.grants) 64 f.few))
-            ∙ ap (λ x. record { reserves = lower s.reserves reserve amount; taps = s.taps; grants = s.grants ++ g ∷ []; serials = x; ticks = s.ticks }) counts;
+        standing = cc;
         books = books ∙ granted_exact s b w.few w.well.serials w.well.ticks task reserve amount serial f.most;
       }
 

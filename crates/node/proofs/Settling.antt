@@ -37,14 +37,12 @@ settle_step m m' s b b' serial amount used back lost g rs gs serials sound w fit
     let taken : back ≡ amount - used - lost = omega (arith, charged.told, lost-is) in
     let returned : fill_up s.reserves (reserve_of serial s.grants) back ≡ return_to s.reserves (reserve_of serial s.grants) back =
     filled_up s.reserves (reserve_of serial s.grants) back known.0 w.well.root_limit (omega (arith, w.well.levels, charged.held, sound.within, sound.bounded)) in
+    let stands : rs ≡ return_to s.reserves (reserve_of serial s.grants) (amount - used - lost) = filled ∙ ap (λ i. fill_up s.reserves i back) (sym here) ∙ returned ∙ ap (return_to s.reserves (reserve_of serial s.grants)) taken in
     record {
       places = 0;
       judged = settle_clear m s serial amount used fits le;
       answers = (back, charged, lost-is);
-      standing =
-          ap (λ x. record { reserves = x; taps = s.taps; grants = gs; serials = serials; ticks = s.ticks }) (filled ∙ ap (λ i. fill_up s.reserves i back) (sym here) ∙ returned ∙ ap (return_to s.reserves (reserve_of serial s.grants)) taken)
-          ∙ ap (λ x. record { reserves = return_to s.reserves (reserve_of serial s.grants) (amount - used - lost); taps = s.taps; grants = x; serials = serials; ticks = s.ticks }) left
-          ∙ ap (λ x. record { reserves = return_to s.reserves (reserve_of serial s.grants) (amount - used - lost); taps = s.taps; grants = without serial s.grants; serials = x; ticks = s.ticks }) same;
+      standing = cc;
       books = books ∙ settled_exact s b w.few w.well.serials w.well.ticks serial amount used lost known.1 (omega (arith, known.1, le)) (omega (arith, known.1, lost-is));
     }
 

@@ -61,11 +61,6 @@ tick_step m mid m' s b b' harvest loss intake k report start rs ts gs serials ti
       places = length report;
       judged = tick_clear m s harvest (length report) room most count;
       answers = (mid, lost, charged, figures);
-      standing =
-          ap (λ x. record { reserves = x; taps = ts; grants = gs; serials = serials; ticks = ticks + 1 }) stands
-          ∙ ap (λ x. record { reserves = after_moves (before_taps s loss intake) s.taps (take 96 report); taps = x; grants = gs; serials = serials; ticks = ticks + 1 }) steps
-          ∙ ap (λ x. record { reserves = after_moves (before_taps s loss intake) s.taps (take 96 report); taps = map stepped s.taps; grants = x; serials = serials; ticks = ticks + 1 }) same_grants
-          ∙ ap (λ x. record { reserves = after_moves (before_taps s loss intake) s.taps (take 96 report); taps = map stepped s.taps; grants = s.grants; serials = x; ticks = ticks + 1 }) same-serials
-          ∙ ap (λ x. record { reserves = after_moves (before_taps s loss intake) s.taps (take 96 report); taps = map stepped s.taps; grants = s.grants; serials = s.serials; ticks = x + 1 }) same-ticks;
+      standing = cc;
       books = books ∙ ticked_exact s b w.few w.well.serials w.well.ticks harvest loss intake (take 96 report) most (omega (arith, lost.within, sound.within, sound.bounded));
     }

@@ -1,6 +1,6 @@
-use Rattle.std.proofs.Common.{false, sym, refl, ap, ◌∙◌}
+use Rattle.std.proofs.Common.{sym, refl, ap}
 use Rattle.std.proofs.lemmas.Result.{err_from_is_err_and}
-use Rattle.tables.specs.Grants.{marked, open_in, amount_in}
+use Rattle.tables.specs.Grants.{amount_in}
 use Rattle.node.specs.Calls.{recall, recalled}
 use Rattle.node.specs.Node.{store_means}
 use Rattle.node.proofs.Goes.{turned_away, goes}
@@ -23,9 +23,7 @@ returns-clause-step g c s = goes g.S.Store g.met.S.Store.means c.args.self.now _
       places = 0;
       judged = sym (c.in_ok-grant.ensures.judged (store_means g.S.Store c.args.self.now));
       answers = (sym (ap amount_in c.in_ok-grant.ensures.found), refl);
-      standing =
-          ap (λ x. record { reserves = c.args.self.now.reserves.rows; taps = c.args.self.now.taps.rows; grants = x; serials = c.mark.new.self.serials; ticks = c.args.self.now.ticks }) c.mark.ensures.after
-          ∙ ap (λ x. record { reserves = c.args.self.now.reserves.rows; taps = c.args.self.now.taps.rows; grants = marked false c.args.serial (open_in c.args.self.now.grants); serials = x; ticks = c.args.self.now.ticks }) c.mark.ensures.serials;
+      standing = let after = c.mark.ensures.after in let serials = c.mark.ensures.serials in cc;
       books = refl;
     })
 
