@@ -55,7 +55,11 @@ pub fn run<S: Script>(rt: &HostRuntime, name: &str, help: &str, script: &mut S) 
     let _ = args.next();
     match args.next() {
         None => tell(rt, name, take_all(script, rt.stdin())),
-        Some(word) if word.as_str() == "--help" => tell(rt, name, rt.print(help).map_err(Stop::Output)),
+        Some(word) if word.as_str() == "--help" => tell(
+            rt,
+            name,
+            rt.print(help).map_err(Stop::Output),
+        ),
         Some(word) => {
             let _ = eprintln!(rt; "{name}: no argument is taken but --help, and '{word}' is none");
             ExitCode::FAILURE
