@@ -1,101 +1,76 @@
--- What one turn of the loops over a script does. Assumes nothing.
-use Rattle.std.proofs.Common.{◌≡◌, ℕ, zero, suc, ◌+◌, ◌-◌, ◌<◌, ◌≤◌, min, true, false, cond, eqb, List, [], ◌∷◌, ◌++◌, length, get_or, take, drop, IfOk, IfSome, Some, None, Ok, Err, Option, Result, sym, refl, ap, ◌∙◌, subst, inl, inr, append_assoc, append-nil, add-one, arith, length-drop}
-use Rattle.std.proofs.lemmas.List.{take_rest, length-take-le, get_or-take, get_or-drop}
+-- What a search for a line feed answers, and what one turn of the loop over a script does. Assumes nothing.
+use Rattle.std.proofs.Common.{◌≡◌, ℕ, zero, suc, ◌+◌, ◌-◌, ◌<◌, ◌≤◌, true, false, cond, eqb, List, [], ◌∷◌, ◌++◌, length, get_or, take, drop, IfOk, Some, None, Ok, Err, Option, Result, sym, refl, ap, ◌∙◌, subst, append_assoc, append-nil, add-one, arith, length-drop}
+use Rattle.std.proofs.lemmas.Grind.{common_steps}
+use Rattle.std.proofs.lemmas.List.{take_rest}
+use Rattle.std.proofs.lemmas.List.Quantifiers.{position-Some}
+use Rattle.std.proofs.lemmas.List.Sums.{position_or_len_is, fails_before_first}
+use Rattle.std.specs.List.{position_or_len}
 use Rattle.std.proofs.lemmas.Bool.{false_from_ne_true}
-use Rattle.std.proofs.lemmas.Bool.Decides.{eqb_tells, leb_tells}
-use Rattle.memchr.specs.Find.{Nowhere, Passes, IsFirstByte, is_byte}
+use Rattle.memchr.specs.Find.{IsFirstByte, is_byte}
 use Rattle.frame.specs.declared.prefix.Prefix.{Prefix}
 use Rattle.frame.specs.Prefix.{cut, kept, HasRead}
 use Rattle.frame.proofs.PrefixLaws.{begins_all}
 use Rattle.filter.specs.declared.script.Script.{Ghosts}
-use Rattle.filter.specs.Cutting.{further, place, lines_from, begun_from, last, Led, Fed}
-
-other : (b : ℕ) (bs : List ℕ) → eqb b 10 ≡ false → place (b ∷ bs) ≡ further (place bs)
-other b bs ne = ap (λ t. cond t (Some 0) (further (place bs))) ne
-
-place_at : (bs : List ℕ) (n : ℕ) → Nowhere (Passes (is_byte 10) bs) 0 n → n < length bs → Passes (is_byte 10) bs n → place bs ≡ Some n
-place_at [] n before within feed = absurd (omega arith)
-place_at (b ∷ bs) zero before within feed = ap (λ t. cond t (Some 0) (further (place bs))) feed
-place_at (b ∷ bs) (suc n) before within feed =
-    other b bs (false_from_ne_true (eqb b 10) (before 0 (omega arith) (omega arith)))
-    ∙ ap further (place_at bs n (λ k l h. before (suc k) (omega arith) (omega arith)) (omega arith) feed)
-    ∙ ap Some (add-one n)
-
-place_none : (bs : List ℕ) → Nowhere (Passes (is_byte 10) bs) 0 (length bs) → place bs ≡ None
-place_none [] before = refl
-place_none (b ∷ bs) before =
-    other b bs (false_from_ne_true (eqb b 10) (before 0 (omega arith) (omega arith)))
-    ∙ ap further (place_none bs (λ k l h. before (suc k) (omega arith) (omega arith)))
+use Rattle.filter.specs.Cutting.{place, lines_from, begun_from, last, Led, Fed}
 
 -- what a search for a line feed answers
 pub place_is : (bs : List ℕ) (r : Option ℕ) → IsFirstByte (is_byte 10) bs r → r ≡ place bs
-place_is bs None h = sym (place_none bs h)
-place_is bs (Some n) h = sym (place_at bs n h.0.before h.0.high h.1)
-
-pub place_within : (bs : List ℕ) (r : Option ℕ) → IsFirstByte (is_byte 10) bs r → IfSome r (λ n. n < length bs)
-place_within bs None h = tt
-place_within bs (Some n) h = h.0.high
+place_is bs None h =
+    let past : position_or_len (is_byte 10) bs ≡ length bs =
+    position_or_len_is (is_byte 10) bs (length bs) 0 (omega arith)
+    (λ k l. false_from_ne_true (is_byte 10 (get_or bs k 0)) (h k (omega arith) l)) (λ l. absurd (omega arith)) in
+    grind (arith, common_steps)
+place_is bs (Some n) h =
+    let at : position_or_len (is_byte 10) bs ≡ n =
+    position_or_len_is (is_byte 10) bs n 0 (omega (arith, h.0.high))
+    (λ k l. false_from_ne_true (is_byte 10 (get_or bs k 0)) (h.0.before k (omega arith) l)) (λ l. h.1) in
+    let within : n < length bs = h.0.high in
+    grind (arith, common_steps)
 
 -- a text up to its first line feed, and after it
 record Split (xs bs : List ℕ) (n : ℕ) : Type 0 where
   pub first : lines_from xs bs ≡ (xs ++ take n bs) ∷ lines_from [] (drop (suc n) bs)
   pub then : begun_from xs bs ≡ begun_from [] (drop (suc n) bs)
 
-split_here : (xs bs : List ℕ) (b : ℕ) → eqb b 10 ≡ true → Split xs (b ∷ bs) 0
-split_here xs bs b is =
+split :
+    (xs bs : List ℕ) (n : ℕ) → n < length bs → eqb (get_or bs n 0) 10 ≡ true → ((k : ℕ) → k < n → eqb (get_or bs k 0) 10 ≡ false)
+    → Split xs bs n
+split xs [] n within is others = absurd (omega arith)
+split xs (b ∷ bs) zero within is others =
     record {
       first = ap (λ t. cond t (xs ∷ lines_from [] bs) (lines_from (xs ++ b ∷ []) bs)) is ∙ ap (λ t. t ∷ lines_from [] bs) (sym (append-nil xs));
       then = ap (λ t. cond t (begun_from [] bs) (begun_from (xs ++ b ∷ []) bs)) is;
     }
-
-split_on : (xs bs : List ℕ) (b n : ℕ) → eqb b 10 ≡ false → Split (xs ++ b ∷ []) bs n → Split xs (b ∷ bs) (suc n)
-split_on xs bs b n ne s =
+split xs (b ∷ bs) (suc n) within is others =
+    let s = split (xs ++ b ∷ []) bs n (omega arith) is (λ k l. others (suc k) (omega arith)) in
+    let other : eqb b 10 ≡ false = others 0 (omega arith) in
     record {
-      first = ap (λ t. cond t (xs ∷ lines_from [] bs) (lines_from (xs ++ b ∷ []) bs)) ne
+      first = ap (λ t. cond t (xs ∷ lines_from [] bs) (lines_from (xs ++ b ∷ []) bs)) other
           ∙ s.first
           ∙ ap (λ t. t ∷ lines_from [] (drop (suc n) bs)) (append_assoc xs (b ∷ []) (take n bs));
-      then = ap (λ t. cond t (begun_from [] bs) (begun_from (xs ++ b ∷ []) bs)) ne ∙ s.then;
+      then = ap (λ t. cond t (begun_from [] bs) (begun_from (xs ++ b ∷ []) bs)) other ∙ s.then;
     }
-
-before : (o : Option ℕ) (n : ℕ) → further o ≡ Some n → (m : ℕ) × (o ≡ Some m) × (n ≡ suc m)
-before None n e = let z : ◌≡◌ {A = ℕ} 0 1 = cc in absurd (omega arith)
-before (Some m) n e = (m, refl, let s : n ≡ m + 1 = cc in s ∙ add-one m)
-
-split : (xs bs : List ℕ) (n : ℕ) → place bs ≡ Some n → Split xs bs n
-split xs [] n e = let z : ◌≡◌ {A = ℕ} 0 1 = cc in absurd (omega arith)
-split xs (b ∷ bs) n e =
-    elim (eqb_tells b 10) [
-      | inl h ↦
-          let p : place (b ∷ bs) ≡ Some 0 = ap (λ t. cond t (Some 0) (further (place bs))) h.0 in
-          let z : 0 ≡ n = cc in subst (λ k. Split xs (b ∷ bs) k) z (split_here xs bs b h.0)
-      | inr h ↦
-          let m = before (place bs) n (sym (other b bs h.0) ∙ e) in
-          subst (λ k. Split xs (b ∷ bs) k) (sym m.2) (split_on xs bs b m.0 h.0 (split (xs ++ b ∷ []) bs m.0 m.1))
-    ]
 
 -- a text without a line feed
 record Unsplit (xs bs : List ℕ) : Type 0 where
   pub none : lines_from xs bs ≡ []
   pub whole : begun_from xs bs ≡ xs ++ bs
 
-nothing : (o : Option ℕ) → further o ≡ None → o ≡ None
-nothing None e = refl
-nothing (Some m) e = let z : ◌≡◌ {A = ℕ} 0 1 = cc in absurd (omega arith)
+unsplit : (xs bs : List ℕ) → ((k : ℕ) → k < length bs → eqb (get_or bs k 0) 10 ≡ false) → Unsplit xs bs
+unsplit xs [] others = record { none = refl; whole = sym (append-nil xs) }
+unsplit xs (b ∷ bs) others =
+    let u = unsplit (xs ++ b ∷ []) bs (λ k l. others (suc k) (omega arith)) in
+    let other : eqb b 10 ≡ false = others 0 (omega arith) in
+    record {
+      none = ap (λ t. cond t (xs ∷ lines_from [] bs) (lines_from (xs ++ b ∷ []) bs)) other ∙ u.none;
+      whole = ap (λ t. cond t (begun_from [] bs) (begun_from (xs ++ b ∷ []) bs)) other ∙ u.whole ∙ append_assoc xs (b ∷ []) bs;
+    }
 
-unsplit : (xs bs : List ℕ) → place bs ≡ None → Unsplit xs bs
-unsplit xs [] e = record { none = refl; whole = sym (append-nil xs) }
-unsplit xs (b ∷ bs) e =
-    elim (eqb_tells b 10) [
-      | inl h ↦
-          let p : place (b ∷ bs) ≡ Some 0 = ap (λ t. cond t (Some 0) (further (place bs))) h.0 in
-          let z : ◌≡◌ {A = ℕ} 0 1 = cc in absurd (omega arith)
-      | inr h ↦
-          let u = unsplit (xs ++ b ∷ []) bs (nothing (place bs) (sym (other b bs h.0) ∙ e)) in
-          record {
-            none = ap (λ t. cond t (xs ∷ lines_from [] bs) (lines_from (xs ++ b ∷ []) bs)) h.0 ∙ u.none;
-            whole = ap (λ t. cond t (begun_from [] bs) (begun_from (xs ++ b ∷ []) bs)) h.0 ∙ u.whole ∙ append_assoc xs (b ∷ []) bs;
-          }
-    ]
+-- where there is no line feed, each byte is another
+others_all : (bs : List ℕ) → place bs ≡ None → (k : ℕ) → k < length bs → eqb (get_or bs k 0) 10 ≡ false
+others_all bs e k l =
+    let past : length bs ≤ position_or_len (is_byte 10) bs = grind (arith, common_steps) in
+    fails_before_first (is_byte 10) bs k 0 (omega arith)
 
 pub shorter : (xs : List ℕ) (k n : ℕ) → length xs ≤ n → length (take (length xs - k) (drop k xs)) ≤ n
 shorter xs k n h =
@@ -134,7 +109,8 @@ module _ {S : Type 0} (G : Ghosts S) where
       → (s'' : S) → G.hears s' (cut (kept l ++ take (n - 0) rest)) s'' → (l' : Prefix 81) → kept l' ≡ []
       → Feeding s xs bs s'' l' (take (length rest - (n + 1)) (drop (n + 1) rest))
   feeding_more s xs bs s' l rest f n e s'' h l' fresh =
-      let sp : Split f.ys rest n = split f.ys rest n e in
+      let at = position-Some (is_byte 10) rest n 0 e in
+      let sp : Split f.ys rest n = split f.ys rest n at.0 at.1 at.2 in
       let z : n - 0 ≡ n = omega arith in
       let line : List ℕ = f.ys ++ take n rest in
       let heard : cut (kept l ++ take (n - 0) rest) ≡ cut line =
@@ -157,7 +133,7 @@ module _ {S : Type 0} (G : Ghosts S) where
       (s : S) (xs bs : List ℕ) (s' : S) (l : Prefix 81) (rest : List ℕ) → Feeding s xs bs s' l rest → place rest ≡ None
       → (l' : Prefix 81) → kept l' ≡ cut (kept l ++ rest) → Fed G s xs bs s' l'
   feeding_end s xs bs s' l rest f e l' k =
-      let u : Unsplit f.ys rest = unsplit f.ys rest e in
+      let u : Unsplit f.ys rest = unsplit f.ys rest (others_all rest e) in
       let all : lines_from xs bs ≡ f.done = f.lines_so ∙ ap (λ t. f.done ++ t) u.none ∙ append-nil f.done in
       record {
         led = subst (λ ls. Led G s ls s') (sym all) f.led_so;

@@ -2,22 +2,17 @@
 --     place bs               the place of the first line feed in bs
 --     lines_from xs bs       the lines that end in bs, of which the first begins with xs
 --     begun_from xs bs       what has then been read of the next
---     last xs                the line that the end of a script ends, where xs has been read of it; there is none where xs is empty
+--     last xs                the last line, where xs has been read of it as the script ends; there is none where xs is empty
 --     Led G s ls s'          the lines ls, the first 81 bytes of each, lead one after the other from s to s'
 --     Fed G s xs bs s' l     where xs had been read of a line, the lines that end in bs lead from s to s', and l keeps what has been read of the next
-use Rattle.std.specs.Prelude.{◌≡◌, ℕ, ◌+◌, cond, List, [], ◌∷◌, ◌++◌, Some, None, Option, ◌==◌}
+use Rattle.std.specs.Prelude.{◌≡◌, ℕ, cond, List, [], ◌∷◌, ◌++◌, Option, ◌==◌, position}
 use Rattle.frame.specs.declared.prefix.Prefix.{Prefix}
 use Rattle.frame.specs.Prefix.{cut, HasRead}
 use Rattle.filter.specs.declared.script.Script.{Ghosts}
 
-abbrev pub further : Option ℕ → Option ℕ
-further (Some n) = Some (n + 1)
-further None = None
-
 -- a line feed is the byte 10
 abbrev pub place : List ℕ → Option ℕ
-place [] = None
-place (b ∷ bs) = cond (b == 10) (Some 0) (further (place bs))
+place bs = position (λ b. b == 10) bs
 
 abbrev pub lines_from : List ℕ → List ℕ → List (List ℕ)
 lines_from xs [] = []
