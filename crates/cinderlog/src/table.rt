@@ -2,32 +2,26 @@
 use recount::{Recount, Row};
 use std::fmt;
 
-// The refusal numbers end below this.
-const REFUSALS: u8 = 18;
-
-// A word for each refusal, by its number, as the recount has them.
-fn word(number: u8) -> &'static str {
-    match number {
-        1 => "short array",
-        2 => "damaged line",
-        3 => "unknown frame",
-        4 => "out of turn",
-        5 => "out of range",
-        6 => "not open",
-        7 => "open already",
-        8 => "no such grant",
-        9 => "not the owner",
-        10 => "same ends",
-        11 => "above the limit",
-        12 => "in use",
-        13 => "overused",
-        14 => "64 grants open",
-        15 => "exhausted",
-        16 => "level too low",
-        17 => "store refused",
-        _ => "no refusal",
-    }
-}
+// A word for each refusal, by the number under which the recount has it.
+const WORDS: [(u8, &str); 17] = [
+    (1, "short array"),
+    (2, "damaged line"),
+    (3, "unknown frame"),
+    (4, "out of turn"),
+    (5, "out of range"),
+    (6, "not open"),
+    (7, "open already"),
+    (8, "no such grant"),
+    (9, "not the owner"),
+    (10, "same ends"),
+    (11, "above the limit"),
+    (12, "in use"),
+    (13, "overused"),
+    (14, "64 grants open"),
+    (15, "exhausted"),
+    (16, "level too low"),
+    (17, "store refused"),
+];
 
 // What the lines of a script come to.
 #[derive(Clone, Copy)]
@@ -44,10 +38,9 @@ impl Table<'_> {
             "\nlines {lines}, accepted {accepted}, refused {refused}\n"
         )?;
         f.write_str("\nrefused       times  why\n")?;
-        for number in 1..REFUSALS {
-            let times = self.0.refused(number);
+        for (number, why) in &WORDS {
+            let times = self.0.refused(*number);
             if times > 0 {
-                let why = word(number);
                 write!(f, "{number:>7}  {times:>10}  {why}\n")?;
             }
         }

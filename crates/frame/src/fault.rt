@@ -10,13 +10,10 @@ use thiserror::Error;
 
 #[derive(Clone, Copy, PartialEq, Eq, Debug, Error)]
 pub enum FrameFault {
-    // The answer array has under 160 bytes.
     #[error("the answer array has fewer than 160 bytes")]
     ShortAnswer,
-    // The line is empty, over 80 digits, odd in length or has another character.
     #[error("the line is not 2 to 80 digits 0-9 and A-F, two for each byte")]
     BadLine,
-    // The first byte names no frame, or the length is not that frame's.
     #[error("no frame has this first byte and this length")]
     UnknownFrame,
     // A frame that builds a node comes when one stands, or another frame comes before.
@@ -27,6 +24,7 @@ pub enum FrameFault {
     Denied(Denial),
 }
 
+// By hand, since `from_gives` says which refusal it is.
 impl From<Denial> for FrameFault {
     ghost from_gives = { λ d f. f ≡ Denied d };
 
@@ -35,6 +33,7 @@ impl From<Denial> for FrameFault {
     }
 }
 
+// By hand, for the same reason.
 impl From<OutOfRange> for FrameFault {
     ghost from_gives = { λ _ f. f ≡ Denied Outside };
 

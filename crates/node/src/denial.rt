@@ -16,45 +16,36 @@ pub struct Overdraw {
     pub fault: Fault,
 }
 
+// The refusal numbers end below this.
+pub const REFUSALS: usize = 18;
+
 #[derive(Clone, Copy, PartialEq, Eq, Debug, Error)]
 pub enum Denial {
-    // The report array has under 96 places.
     #[error("the report array has fewer than 96 places")]
     ShortReport,
-    // A number lies outside the range that the rules give for it.
     #[error("a number lies outside its range")]
     OutOfRange,
-    // A reserve or tap named as present is absent.
     #[error("the reserve or tap named is not open")]
     Absent,
-    // A reserve or tap to be opened is open.
     #[error("the reserve or tap to be opened is open already")]
     AlreadyOpen,
     // The serial and the amount fit no grant that is out, or parked, as the call asks.
     #[error("the serial and the amount fit no grant that the call can take")]
     NoSuchGrant,
-    // The task is not the owner.
     #[error("the task does not own the reserve")]
     NotOwner,
-    // A tap's source and sink are the same.
     #[error("the tap's source and sink are the same reserve")]
     SameEnds,
-    // The opening amount is above the new limit.
     #[error("the opening amount is above the new reserve's limit")]
     AboveLimit,
-    // A reserve to be closed is a parent, a tap's end or has an open grant.
     #[error("the reserve is a parent, an end of a tap, or has an open grant")]
     InUse,
-    // More is used than was granted.
     #[error("more was used than was granted")]
     Overused,
-    // A grant is requested with 64 open.
     #[error("64 grants are open: settle one first")]
     TooManyGrants,
-    // The node has had all the ticks, or all the grants, that it may have.
     #[error("the node has had all the ticks or grants that it may have")]
     Exhausted,
-    // The level of the reserve is below the amount.
     #[error("task {task} asked of reserve {reserve}, whose level lacks {deficit} quanta")]
     LevelTooLow { task: u8, reserve: u8, deficit: u32 },
     // The store refuses the draw.

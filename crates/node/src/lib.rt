@@ -8,7 +8,7 @@ mod node;
 mod slip;
 mod totals;
 
-pub use denial::{Denial, Overdraw};
+pub use denial::{Denial, Overdraw, REFUSALS};
 pub use new_reserve::NewReserve;
 pub use new_tap::NewTap;
 pub use node::Node;

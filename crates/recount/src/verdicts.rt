@@ -4,9 +4,7 @@ ghost use Rattle.recount.specs.Recount.{Judges, capped};
 ghost use Rattle.recount.specs.Noting.{accepted_after, refused_after};
 
 use frame::{Answer, FrameFault};
-
-// The refusal numbers end below this.
-const REFUSALS: usize = 18;
+use node::REFUSALS;
 
 #[derive(Drop)]
 pub(crate) struct Verdicts {
