@@ -1,7 +1,7 @@
 -- Frames: a first byte that names the kind, then that kind's fields, numbers high byte first. Assumes nothing.
 --     two fs i, four fs i      the number of the two bytes, or the four, of fs from place i on
 --     sized fs n f             the frame f, where its fields fs are n bytes
---     open_of fs, close_of fs, tap_of fs, shut_of fs, grant_of fs, settle_of fs, tick_of fs      the call of each kind with the fields fs
+--     open_of fs, close_of fs, tap_of fs, shut_of fs, grant_of fs, settle_of fs, tick_of fs, audit_of fs      the call of each kind with the fields fs
 --     capacitor_of fs, layered_of fs, bank_of fs      the frame with the fields fs that builds a node over each store
 --     frame_of_lem bs              the frame whose bytes are bs
 use Rattle.std.specs.Prelude.{ℕ, ◌+◌, ◌*◌, cond, List, [], ◌∷◌, length, Ok, Err, Result, ◌==◌, slice_index}

@@ -40,11 +40,12 @@ pub trait Layer {
         Layered { below, layer: self }
     }
 
+    // The letter is one of ASCII.
     ghost lettered: { T (letter KIND) };
 
-    // It leaves no more than there is,
+    // It leaves no more than there is.
     ghost under: { (l : Self) (a : ℕ) → sound l → leaves l a ≤ a };
 
-    // and what a draw takes below is taken off what it leaves.
+    // What a draw takes below is taken off what it leaves.
     ghost lowers: { (l : Self) (a q : ℕ) → sound l → q ≤ leaves l a → leaves l (a - q) ≡ leaves l a - q };
 }

@@ -6,12 +6,6 @@ use Rattle.tables.specs.Reserves.{ReserveRows}
 use Rattle.tables.proofs.RowLaws.{Mapped, mapped_here, mapped_more}
 use Rattle.tables.specs.Taps.{TapRows, stepped, figure_of, moved, after_moves, Figures, TapFits, Ran}
 
-pub figures_length : (rs : ReserveRows) (ts : TapRows) (qs : List ℕ) → Figures rs ts qs → length ts ≡ length qs
-figures_length rs [] [] f = refl
-figures_length rs [] (q ∷ qs) f = absurd f
-figures_length rs (t ∷ ts) [] f = absurd f
-figures_length rs (t ∷ ts) (q ∷ qs) f = ap suc (figures_length (moved rs t q) ts qs f.1)
-
 -- the turn of one tap more
 pub moves_more : (rs : ReserveRows) (ts : TapRows) (qs : List ℕ) (t : Option Tap) (q : ℕ) → Figures rs ts qs → after_moves rs (ts ++ t ∷ []) (qs ++ q ∷ []) ≡ moved (after_moves rs ts qs) t q
 moves_more rs [] [] t q f = refl

@@ -1,5 +1,6 @@
 -- What is asked of a node, and what it answered. Assumes nothing.
---     Call          a call with its arguments; a tick's are the harvest and how many places the report has
+--     Call          a call with its arguments, one case for each of the ten; a tick's are the harvest and how many places
+--                   the report has
 --     Event         a call that was refused, with the reason, or one that was accepted, with its answer
 --     History       the events of a node's life, the newest first
 use Rattle.std.specs.Prelude.{ℕ, List}

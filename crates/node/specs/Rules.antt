@@ -1,4 +1,5 @@
 -- When a call is turned down, and where a node stands after one that is not. Assumes nothing.
+--     between low x high        x is a number from low to high
 --     first_of cs               the reason of the first test in cs that holds
 --     request_tests s t i q     what a grant is tested for before the store is asked
 --     tests m s call            what the call is tested for, in checking order, over a store of meaning m

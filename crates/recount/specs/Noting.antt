@@ -1,4 +1,4 @@
--- What one answer more leaves of the parts of a recount. Assumes nothing.
+-- What one reply more leaves of the parts of a recount. Assumes nothing.
 --     one_more ys n                       the counts ys, with one more at n
 --     accepted_after a x                  how many lines are accepted after a, where x were before
 --     refused_after a ys                  the refused lines by their number after a, where they were ys

@@ -24,7 +24,7 @@ pub(crate) struct Lack {
 }
 
 impl Lack {
-    // What a line's answer tells to be lacking, where it is such a denial.
+    // What a reply tells to be lacking, where it is such a denial.
     pub(crate) fn of(reply: &Result<Answer, FrameFault>) -> Option<Lack>
         ensures result { result ≡ lack_of reply.now }
     {

@@ -1,4 +1,4 @@
-// The recount of a script's answers. Its counts stay at the largest number once there.
+// The recount of what a script is answered. Its counts stay at the largest number once there.
 ghost use Rattle.std.specs.Prelude.{◌≡◌, List, [], ◌∷◌, ◌++◌, length, IfOk};
 ghost use Rattle.recount.specs.Recount.{Reply, Counts, capped, how_many, accepted as is_accepted, refused_with, denied as is_denied, denied_to, row_of};
 
@@ -15,7 +15,7 @@ pub struct Recount {
 }
 
 impl Recount {
-    // The recount of no answers.
+    // The recount of no replies.
     pub fn new(heap: Global) -> Result<Recount, AllocError>
         ensures counts { IfOk result (Counts []) }
     {
@@ -26,7 +26,7 @@ impl Recount {
         })
     }
 
-    // The recount of all these answers.
+    // The recount of all these replies.
     pub fn of(heap: Global, replies: &[Result<Answer, FrameFault>]) -> Result<Recount, AllocError>
         ensures counts { IfOk result (Counts replies.now) }
     {
@@ -37,7 +37,7 @@ impl Recount {
         Ok(recount)
     }
 
-    // Counts one answer more.
+    // Counts one reply more.
     pub fn note(&mut self, reply: &Result<Answer, FrameFault>)
         ensures counts { (xs : List Reply) → Counts xs self.old → Counts (xs ++ reply.now ∷ []) self.new }
     {

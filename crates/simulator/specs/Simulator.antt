@@ -1,4 +1,5 @@
 -- What a line is answered, which calls it stands for, and what stands after it. Assumes nothing.
+--     layered_store              the members, as a store, of a capacitor under a floor under leakage
 --     layered_of c f p           the capacitor under a floor under leakage that these numbers make, or its refusal
 --     Reached s                  the node that stands, if one does, is reached by a run of calls from a new node over a sound store
 --     done x, told x             the answer to a call that tells nothing, and to a tick
@@ -11,6 +12,7 @@
 --     Serves s f r s'            what the frame f is answered, and what stands after it
 --     frame_in line              the frame that a line is, or why it is none
 --     Replies s line r s'        what the line is answered, and what stands after it
+--     SameIfRefused r s s'       what stood is what stands, where r is a refusal
 --     Answers s line out r s' out'      the same with the answer array before and after
 use Rattle.std.specs.Prelude.{◌≡◌, ℕ, ◌<◌, ◌≤◌, List, length, Ok, Err, Result}
 use Rattle.rates.specs.declared.amount.OutOfRange.{OutOfRange as Outside}

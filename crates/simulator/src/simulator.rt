@@ -46,8 +46,8 @@ fn build(frame: Frame) -> Result<Simulator, FrameFault>
             floor,
             part,
         } => {
-            let leakage = layers(capacity, floor, part)?;
-            Ok(Simulator::Layered(Node::new(leakage)))
+            let store = layers(capacity, floor, part)?;
+            Ok(Simulator::Layered(Node::new(store)))
         }
         Frame::Bank { capacities } => {
             let bank = Bank::new(&capacities)?;

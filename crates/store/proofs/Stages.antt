@@ -45,9 +45,6 @@ sound_more m s sound t le = record {
   bounded = sound.bounded;
 }
 
-pub height_more : (m : Meaning) (s : Stage) → Sound m → height_of (with_stage s m).stages ≡ min (height_of m.stages + 1) 255
-height_more m s sound = omega (arith, sound.some, length-append m.stages (s ∷ []))
-
 make_more : (m n : Meaning) (s t : Stage) → t.kind ≡ s.kind → SameMake m n → SameMake (with_stage s m) (with_stage t n)
 make_more m n s t k make = record {
   capacity = make.capacity;

@@ -6,6 +6,7 @@
 --     of_reserve i g            the grant g is of reserve i
 --     added g gs                the grants and g after them, where fewer than 64 are open
 --     without serial gs         the grants but for the one with this serial
+--     mark p serial g           the grant g, parked or out by p where it has this serial
 --     marked p serial gs        the grants, with the one with this serial parked (p true) or out (p false)
 --     open_in t                 the open grants that the table t holds
 use Rattle.std.specs.Prelude.{ℕ, Bool, false, cond, not, ◌&&◌, List, [], ◌∷◌, ◌++◌, length, filter, map, Some, None, Option, ◌==◌, nat_lt}

@@ -5,12 +5,14 @@
 --     level_at rs i                the level of reserve i, 0 where it is not open
 --     headroom rs i                its limit less its level
 --     parent_of rs i               its parent
+--     relevel v o                  the row o with the level v, if it is open
 --     put_level rs i v             the same reserves with the level v at reserve i, if it is open
 --     give rs i q, lower rs i q    q more, or less, at reserve i
 --     fill rs i q                  q more at reserve i, up to its headroom
 --     return_to rs i q             q more at reserve i up to its headroom, and the rest at the root
 --     fill_up rs i q               the same with the root filled up to its headroom, which in a sound node is no less
 --     charge_loss q rs             a loss, taken from the root first, then from reserves 31 down to 1
+--     parent_is i o                the row o is that of a reserve whose parent is i
 --     is_parent rs i               reserve i is the parent of an open reserve
 use Rattle.std.specs.Prelude.{ℕ, zero, suc, ◌+◌, ◌-◌, min, Bool, false, List, [], ◌∷◌, drop, replicate, Some, None, Option, ◌==◌, slice_index_or, slice_set}
 use Rattle.std.specs.List.{list_any}

@@ -1,5 +1,6 @@
 -- Constant taps, by their rows: tap k stands at place k, and a place without a row is not open. Assumes nothing.
 --     TapRows                 the 96 rows
+--     first_taps              none is open
 --     tap_due t               what the tap t is due at a tick
 --     stepped o               the row o after a tick: its remainder has advanced
 --     ends_at i o             the tap o begins or ends at reserve i
