@@ -1,36 +1,27 @@
 // A bank, and a capacitor under a floor under leakage, each for a few ticks.
-ghost use Rattle.std.specs.Prelude.{IfErr, ◌≡◌, ◌-◌};
-ghost use Rattle.probe.specs.Failure.{IsLetGo};
+ghost use Rattle.std.specs.Prelude.{◌≡◌, ◌-◌};
 
-use crate::failure::Failure;
+use example::Failure;
 use layers::{Floor, Layer, Leakage};
-use node::Node;
+use node::{Node, ROOT, ROOT_TASK, TAPS};
 use store::{Bank, Capacitor, Store};
 
-const ROOT: u8 = 0;
-
-const ROOT_TASK: u8 = 0;
-
-const TAPS: usize = 96;
-
-fn tick<S: Store>(rt: &impl Print, node: &mut Node<S>, harvest: u32) -> Result<(), Failure>
-    ensures kept { IfErr result IsLetGo }
-{
+fn tick<S: Store>(rt: &impl Print, node: &mut Node<S>, harvest: u32) -> Result<(), Failure> {
     let mut report = [0; TAPS];
     let (loss, intake) = node.tick(harvest, &mut report)?;
     println!(rt; "A tick with a harvest of {harvest} loses {loss} and takes in {intake}.")?;
     Ok(())
 }
 
-// Requests a grant from the root, and settles it with all used.
-fn spend<S: Store>(rt: &impl Print, node: &mut Node<S>, amount: u32) -> Result<(), Failure>
-    ensures kept { IfErr result IsLetGo }
-{
+// Requests a grant from the root, and settles it with all used: its slip is out, so that is not refused.
+fn spend<S: Store>(rt: &impl Print, node: &mut Node<S>, amount: u32) -> Result<(), Failure> {
     match node.grant(ROOT_TASK, ROOT, amount) {
-        Ok(slip) => {
-            let lost = node.settle(slip, amount)?;
-            println!(rt; "A grant of {amount} is settled with all used, and {lost} are lost.")?;
-        }
+        Ok(slip) => match node.settle(slip, amount) {
+            Ok(lost) => {
+                println!(rt; "A grant of {amount} is settled with all used, and {lost} are lost.")?
+            }
+            Err((_, _slip)) => unreachable!(),
+        },
         Err(denial) => {
             let number = denial.number();
             println!(rt; "A grant of {amount} is denied with refusal {number}: {denial}.")?;
@@ -46,16 +37,17 @@ fn returned(amount: u32, used: u32, lost: u32) -> u32
     amount.saturating_sub(used).saturating_sub(lost)
 }
 
-// The bank fills while a slip is out, so that not all that is unused finds room again.
-fn tell_settlement(rt: &impl Print, bank: Bank) -> Result<(), Failure>
-    ensures kept { IfErr result IsLetGo }
-{
+// The bank fills while a slip is out, so that not all that is unused finds room again. A tick leaves the slip out.
+fn tell_settlement(rt: &impl Print, bank: Bank) -> Result<(), Failure> {
     let mut node = Node::new(bank);
     tick(rt, &mut node, 6)?;
     let slip = node.grant(ROOT_TASK, ROOT, 5)?;
     let mut report = [0; TAPS];
     let ticked = node.tick(4, &mut report);
-    let lost = node.settle(slip, 2)?;
+    let lost = match node.settle(slip, 2) {
+        Ok(lost) => lost,
+        Err((_, _slip)) => unreachable!(),
+    };
     let (_, intake) = ticked?;
     println!(rt; "While a slip for 5 is out, a tick takes in {intake}.")?;
     let back = returned(5, 2, lost);
@@ -63,9 +55,7 @@ fn tell_settlement(rt: &impl Print, bank: Bank) -> Result<(), Failure>
     Ok(())
 }
 
-pub fn tell_bank(rt: &impl Print) -> Result<(), Failure>
-    ensures kept { IfErr result IsLetGo }
-{
+pub fn tell_bank(rt: &impl Print) -> Result<(), Failure> {
     let mut bank = Bank::new(&[5, 3, 2])?;
     let taken = bank.charge(7);
     println!(rt; "A bank with cells of 5, 3 and 2 takes in {taken} and holds {bank}.")?;
@@ -74,9 +64,7 @@ pub fn tell_bank(rt: &impl Print) -> Result<(), Failure>
     tell_settlement(rt, bank)
 }
 
-pub fn tell_layers(rt: &impl Print) -> Result<(), Failure>
-    ensures kept { IfErr result IsLetGo }
-{
+pub fn tell_layers(rt: &impl Print) -> Result<(), Failure> {
     println!(rt; "A capacitor of 25 stands under a floor of 4, under a leakage of 1000 parts.")?;
     let floor = Floor::new(4).over(Capacitor::new(25)?);
     let leakage = Leakage::new(1_000)?.over(floor);

@@ -7,7 +7,7 @@ use node::Denial;
 // The refusal numbers end below this.
 const REFUSALS: usize = 18;
 
-#[derive(Drop)]
+#[derive(Default, Drop)]
 pub struct Tally {
     pub ticks: u64,
     pub delivered: u64,
@@ -27,18 +27,7 @@ impl Tally {
         ensures ticks { result.ticks ≡ 0 }
         ensures requested { result.requested ≡ 0 }
     {
-        Tally {
-            ticks: 0,
-            delivered: 0,
-            requests: 0,
-            requested: 0,
-            granted: 0,
-            denied: 0,
-            reasons: [0; REFUSALS],
-            settled: 0,
-            spent: 0,
-            lost: 0,
-        }
+        Tally::default()
     }
 
     pub fn tick(&mut self, moved: u32)

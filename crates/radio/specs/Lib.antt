@@ -1,2 +1,1 @@
 pub mod Supply
-pub mod Failure

@@ -1,32 +1,23 @@
 // A radio that lives on a battery: a node over a store and a layer of one's own.
 #![tactic(auto)]
 
-ghost use Rattle.std.specs.Prelude.{IfOk, IfErr};
+ghost use Rattle.std.specs.Prelude.{IfOk};
 ghost use Rattle.node.specs.Runs.{Reached, Lawful};
 ghost use Rattle.radio.specs.Supply.{supply_store, Balanced};
-ghost use Rattle.radio.specs.Failure.{IsLetGo};
 
-mod failure;
-
-use failure::Failure;
+use example::Failure;
 use guide::{Battery, Standby};
 use layers::{Layer, Layered};
-use node::{Denial, NewReserve, NewTap, Node, Totals};
+use node::{Denial, NewReserve, NewTap, Node, ROOT, ROOT_TASK, TAPS, Totals};
 use rates::OutOfRange;
 use std::process::ExitCode;
 use store::Store;
-
-const ROOT: u8 = 0;
-
-const ROOT_TASK: u8 = 0;
 
 const RADIO: u8 = 1;
 
 const RADIO_TASK: u8 = 7;
 
 const RADIO_TAP: u8 = 0;
-
-const TAPS: usize = 96;
 
 // A node over a full battery with a standby current.
 fn powered(capacity: u32, standby: u32) -> Result<Node<Layered<Battery, Standby>>, OutOfRange>
@@ -73,13 +64,15 @@ fn wait<S: Store>(node: &mut Node<S>, ticks: u32) -> Result<u32, Denial>
     Ok(lost)
 }
 
-// A grant for the radio, whose slip is parked at once: its serial.
-fn request<S: Store>(node: &mut Node<S>, amount: u32) -> Result<u32, Failure>
+// A grant for the radio, whose slip is parked at once: its serial. The slip is out, so its parking is not refused.
+fn request<S: Store>(node: &mut Node<S>, amount: u32) -> Result<u32, Denial>
     ensures run { Reached (S.Store) node.old → Reached (S.Store) node.new }
-    ensures kept { IfErr result IsLetGo }
 {
     let slip = node.grant(RADIO_TASK, RADIO, amount)?;
-    Ok(node.park(slip)?)
+    match node.park(slip) {
+        Ok(serial) => Ok(serial),
+        Err((_, _slip)) => unreachable!(),
+    }
 }
 
 // A grant of what is wanted or, where that is denied, of what is enough.
@@ -90,30 +83,28 @@ fn request_either<S: Store>(
     enough: u32,
 ) -> Result<u32, Failure>
     ensures run { Reached (S.Store) node.old → Reached (S.Store) node.new }
-    ensures kept { IfErr result IsLetGo }
 {
     match request(node, wanted) {
-        Err(Failure::Denied(denial)) => {
+        Err(denial) => {
             println!(rt; "A grant of {wanted} is denied: {denial}.")?;
-            request(node, enough)
+            Ok(request(node, enough)?)
         }
-        answer => answer,
+        Ok(serial) => Ok(serial),
     }
 }
 
 // The slip is recalled, and settled with so much used: what of the rest was lost. Where that is refused, the slip is
 // parked again: it is out, so its parking is not refused.
-fn send<S: Store>(node: &mut Node<S>, serial: u32, used: u32) -> Result<u32, Failure>
+fn send<S: Store>(node: &mut Node<S>, serial: u32, used: u32) -> Result<u32, Denial>
     ensures run { Reached (S.Store) node.old → Reached (S.Store) node.new }
-    ensures kept { IfErr result IsLetGo }
 {
     let slip = node.recall(RADIO_TASK, serial)?;
     match node.settle(slip, used) {
         Ok(lost) => Ok(lost),
-        Err((denial, slip)) => {
-            let _ = node.park(slip)?;
-            Err(Failure::Denied(denial))
-        }
+        Err((denial, slip)) => match node.park(slip) {
+            Ok(_) => Err(denial),
+            Err((_, _slip)) => unreachable!(),
+        },
     }
 }
 
@@ -127,7 +118,6 @@ fn audit(node: &Node<Layered<Battery, Standby>>) -> Totals
 // So what the radio's node has counted balances, whatever was denied on the way.
 fn tell(rt: &impl Print) -> Result<Totals, Failure>
     ensures balance { IfOk result Balanced }
-    ensures kept { IfErr result IsLetGo }
 {
     let mut node = powered(100, 2)?;
     feed_radio(&mut node)?;
@@ -140,31 +130,21 @@ fn tell(rt: &impl Print) -> Result<Totals, Failure>
 }
 
 // The totals at the end are told in one sentence.
-fn report(rt: &impl Print) -> Result<(), Failure>
-    ensures kept { IfErr result IsLetGo }
-{
-    let totals = tell(rt)?;
-    let received = totals.received;
-    let held = totals.held;
-    let open = totals.open;
-    let spent = totals.spent;
-    let lost = totals.lost;
+fn report(rt: &impl Print) -> Result<(), Failure> {
+    let Totals {
+        received,
+        held,
+        open,
+        spent,
+        lost,
+        ..
+    } = tell(rt)?;
     println!(rt;
         "Of {received} quanta {held} are held, {open} open, {spent} spent and {lost} lost."
     )?;
     Ok(())
 }
 
-// A failure is told as one line of standard error. It holds no slip, so it is let go.
 fn main(rt: HostRuntime) -> ExitCode {
-    match report(&rt) {
-        Ok(()) => ExitCode::SUCCESS,
-        Err(failure) => {
-            let _ = eprintln!(rt; "radio: {failure}");
-            match failure {
-                Failure::OutOfRange | Failure::Denied(_) | Failure::Output(_) => ExitCode::FAILURE,
-                Failure::Returned(_, _slip) => unreachable!(),
-            }
-        }
-    }
+    example::ended(&rt, "radio", report(&rt))
 }

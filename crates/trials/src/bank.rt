@@ -1,6 +1,7 @@
 // Banks: the order of their cells, how many there may be, and what they may hold together.
 use crate::call::{Call, script};
-use crate::shown::refusal;
+use crate::shown::Refusal;
+use crate::stack::made;
 use crate::tally::Tally;
 use rates::G;
 use store::{Bank, Store};
@@ -27,8 +28,7 @@ const EDGES: &[(&[u32], &str)] = &[
 ];
 
 fn cells(tally: &mut Tally<'_>) {
-    let Ok(mut bank) = Bank::new(&[5, 3, 2]) else {
-        tally.hold("cells 5, 3, 2", "made", "refused");
+    let Some(mut bank) = made(tally, "cells 5, 3, 2", Bank::new(&[5, 3, 2])) else {
         return;
     };
     let _ = bank.charge(7);
@@ -42,7 +42,7 @@ fn edges(tally: &mut Tally<'_>) {
         tally.hold(
             format_args!("refusal of a bank of {capacities:?}"),
             expected,
-            refusal(Bank::new(capacities)),
+            Refusal(Bank::new(capacities).err()),
         );
     }
 }

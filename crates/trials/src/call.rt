@@ -1,10 +1,12 @@
 // Calls of a store, written down so that a table can hold them.
+use crate::stack::made;
 use crate::tally::Tally;
 use rates::OutOfRange;
 use std::fmt;
 use std::fmt::Display;
 use store::{Fault, Store};
 
+// No closure: one table runs on stores of several types, and each call is told by its name.
 #[derive(Clone, Copy)]
 pub enum Call {
     Held,
@@ -34,56 +36,53 @@ impl fmt::Display for Call {
 
 // What a store answered.
 #[derive(Clone, Copy)]
-pub enum Came {
+enum Came {
     Number(u32),
-    Accepted,
-    Refused(Fault),
+    Drawn(Result<(), Fault>),
 }
 
 impl fmt::Display for Came {
     fn fmt<W: fmt::Write>(&self, f: &mut fmt::Formatter<W>) -> fmt::Result {
         match self {
             Came::Number(number) => write!(f, "{number}"),
-            Came::Accepted => f.write_str("accepted"),
-            Came::Refused(fault) => {
-                let height = fault.height;
-                let kind = char::from(fault.kind);
-                let deficit = fault.deficit;
+            Came::Drawn(Ok(())) => f.write_str("accepted"),
+            Came::Drawn(
+                Err(
+                    Fault {
+                        height,
+                        kind,
+                        deficit,
+                    },
+                ),
+            ) => {
+                let kind = char::from(*kind);
                 write!(f, "fault height {height}, kind {kind}, deficit {deficit}")
             }
         }
     }
 }
 
-fn draw<S: Store>(store: &mut S, q: u32) -> Came {
-    match store.draw(q) {
-        Ok(()) => Came::Accepted,
-        Err(fault) => Came::Refused(fault),
-    }
-}
-
-pub fn answer<S: Store>(store: &mut S, call: Call) -> Came {
+fn answer<S: Store>(store: &mut S, call: Call) -> Came {
     match call {
         Call::Held => Came::Number(store.held()),
         Call::Capacity => Came::Number(store.capacity()),
         Call::Available => Came::Number(store.available()),
         Call::Height => Came::Number(u32::from(store.height())),
         Call::Charge(q) => Came::Number(store.charge(q)),
-        Call::Draw(q) => draw(store, q),
+        Call::Draw(q) => Came::Drawn(store.draw(q)),
         Call::Drain(q) => Came::Number(store.drain(q)),
         Call::Tick => Came::Number(store.tick()),
     }
 }
 
-// One store's calls in turn, each with its answer; a store that could not be made is one trial that failed.
+// One store's calls in turn, each with its answer.
 pub fn script<S: Store + Drop>(
     tally: &mut Tally<'_>,
-    name: impl Display + Drop,
+    name: impl Display + Copy,
     new: Result<S, OutOfRange>,
     calls: &[(Call, &str)],
 ) {
-    let Ok(mut store) = new else {
-        tally.hold(name, "made", "refused");
+    let Some(mut store) = made(tally, name, new) else {
         return;
     };
     for (call, expected) in calls {

@@ -1,9 +1,9 @@
 // Capacitors: the edges of the capacity, a charge above the room, refused and accepted draws, drains and ticks.
 use crate::call::{Call, script};
-use crate::shown::refusal;
+use crate::shown::Refusal;
 use crate::tally::Tally;
-use rates::{G, OutOfRange};
-use store::{Capacitor, Store};
+use rates::G;
+use store::Capacitor;
 
 const SMALL: &[(Call, &str)] = &[
     (Call::Height, "0"),
@@ -27,13 +27,6 @@ const SMALL: &[(Call, &str)] = &[
     (Call::Draw(1), "fault height 0, kind C, deficit 1"),
 ];
 
-// A capacitor that was charged once.
-pub fn charged(capacity: u32, q: u32) -> Result<Capacitor, OutOfRange> {
-    let mut capacitor = Capacitor::new(capacity)?;
-    let _ = capacitor.charge(q);
-    Ok(capacitor)
-}
-
 pub fn run(tally: &mut Tally<'_>) {
     script(tally, "capacitor of 10", Capacitor::new(10), SMALL);
     script(
@@ -45,6 +38,6 @@ pub fn run(tally: &mut Tally<'_>) {
     tally.hold(
         "refusal of a capacitor of G + 1",
         "5",
-        refusal(Capacitor::new(G + 1)),
+        Refusal(Capacitor::new(G + 1).err()),
     );
 }

@@ -1,9 +1,8 @@
 // Floors: what they keep from a draw, whose fault is told, and what they do not stop.
 use crate::call::{Call, script};
-use crate::capacitor::charged;
+use crate::stack::{charged, over};
 use crate::tally::Tally;
-use layers::{Floor, Layer, Layered};
-use rates::OutOfRange;
+use layers::Floor;
 
 const OVER_SIX: &[(Call, &str)] = &[
     (Call::Height, "1"),
@@ -24,25 +23,17 @@ const ABOVE: &[(Call, &str)] = &[
     (Call::Held, "10"),
 ];
 
-// A floor over the store, if there is one.
-pub fn floored<S>(
-    below: Result<S, OutOfRange>,
-    amount: u32,
-) -> Result<Layered<S, Floor>, OutOfRange> {
-    Ok(Floor::new(amount).over(below?))
-}
-
 pub fn run(tally: &mut Tally<'_>) {
     script(
         tally,
         "floor 4 over 6",
-        floored(charged(10, 6), 4),
+        over(Ok(Floor::new(4)), charged(10, 6)),
         OVER_SIX,
     );
     script(
         tally,
         "floor 4294967295 over 3",
-        floored(charged(10, 3), u32::MAX),
+        over(Ok(Floor::new(u32::MAX)), charged(10, 3)),
         ABOVE,
     );
 }

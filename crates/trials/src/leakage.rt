@@ -1,11 +1,9 @@
 // Leakage: the remainder that it keeps, the edges of its part, and layers above and below it.
 use crate::call::{Call, script};
-use crate::capacitor::charged;
-use crate::floor::floored;
-use crate::shown::refusal;
+use crate::shown::Refusal;
+use crate::stack::{charged, over};
 use crate::tally::Tally;
-use layers::{Layer, Layered, Leakage};
-use rates::OutOfRange;
+use layers::{Floor, Leakage};
 
 const FIGURE: &[(Call, &str)] = &[
     (Call::Tick, "2"),
@@ -31,37 +29,37 @@ const DEEP: &[(Call, &str)] = &[
 
 const TWICE: &[(Call, &str)] = &[(Call::Tick, "19"), (Call::Held, "81")];
 
-// Leakage over the store, if there is one and the part is in its range.
-fn leaking<S: Drop>(
-    below: Result<S, OutOfRange>,
-    part: u16,
-) -> Result<Layered<S, Leakage>, OutOfRange> {
-    let below = below?;
-    Ok(Leakage::new(part)?.over(below))
-}
-
 pub fn run(tally: &mut Tally<'_>) {
     script(
         tally,
         "leakage 1000 over 25",
-        leaking(charged(100, 25), 1_000),
+        over(Leakage::new(1_000), charged(100, 25)),
         FIGURE,
     );
     tally.hold(
         "refusal of leakage 10001",
         "5",
-        refusal(leaking(charged(25, 25), 10_001)),
+        Refusal(over(Leakage::new(10_001), charged(25, 25)).err()),
     );
     script(
         tally,
         "floor 2 over leakage 5000 over floor 4 over 10",
-        floored(leaking(floored(charged(10, 10), 4), 5_000), 2),
+        over(
+            Ok(Floor::new(2)),
+            over(
+                Leakage::new(5_000),
+                over(Ok(Floor::new(4)), charged(10, 10)),
+            ),
+        ),
         DEEP,
     );
     script(
         tally,
         "leakage 1000 over leakage 1000 over 100",
-        leaking(leaking(charged(100, 100), 1_000), 1_000),
+        over(
+            Leakage::new(1_000),
+            over(Leakage::new(1_000), charged(100, 100)),
+        ),
         TWICE,
     );
 }

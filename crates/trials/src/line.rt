@@ -1,9 +1,8 @@
 // Lines: what a whole line is answered, in which order it is looked at, and the array that the answer goes to.
-use crate::shown::Written;
+use crate::shown::{Told, Written};
 use crate::tally::Tally;
+use frame::ROOM;
 use simulator::Simulator;
-
-const ROOM: usize = 160;
 
 // No node stands until a capacitor of G is built.
 const CAPACITOR: &[(&str, &str)] = &[
@@ -138,48 +137,21 @@ const NONE_LEAKS: &[(&str, &str)] = &[
     ("0600000000001A", "10000000000001$"),
 ];
 
-// One line and its answer, as far as the simulator says that it wrote.
-fn told(
-    tally: &mut Tally<'_>,
-    simulator: &mut Simulator,
-    what: &str,
-    line: &[u8],
-    out: &mut [u8],
-    expected: &str,
-) {
-    match simulator.answer(line, out) {
-        Ok(len) => tally.hold(what, expected, Written { bytes: out, len }),
-        Err(fault) => {
-            let number = fault.number();
-            tally.hold(what, expected, format_args!("refused {number}"));
-        }
-    }
-}
-
-fn bytes(tally: &mut Tally<'_>, simulator: &mut Simulator, line: &str, expected: &str) {
-    let mut out = [0; ROOM];
-    told(tally, simulator, line, line.as_bytes(), &mut out, expected);
-}
-
-// Lines to one simulator, each with its answer.
+// Lines to one simulator, each with its answer, as far as the simulator says that it wrote.
 fn session(tally: &mut Tally<'_>, lines: &[(&str, &str)]) {
     let mut simulator = Simulator::new();
     for (line, expected) in lines {
-        bytes(tally, &mut simulator, line, expected);
+        let mut out = [0; ROOM];
+        let came = simulator.answer(line.as_bytes(), &mut out);
+        tally.hold(*line, expected, Told(came.map(|len| Written(&out[..len]))));
     }
 }
 
 // A line into an array that is one byte too short.
 fn short(tally: &mut Tally<'_>) {
     let mut out = [0; ROOM - 1];
-    told(
-        tally,
-        &mut Simulator::new(),
-        "into 159 bytes",
-        b"1000000064",
-        &mut out,
-        "refused 1",
-    );
+    let came = Simulator::new().answer(b"1000000064", &mut out);
+    tally.hold("into 159 bytes", "refused 1", Told(came));
 }
 
 // Each is a simulator of its own.

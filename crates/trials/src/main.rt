@@ -10,6 +10,7 @@ mod line;
 mod rate;
 mod report;
 mod shown;
+mod stack;
 mod tally;
 
 use std::io;

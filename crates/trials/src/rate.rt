@@ -1,58 +1,132 @@
 // Constant rates: their dues with the remainder kept, and the edges of their ranges.
+use crate::shown::Told;
 use crate::tally::Tally;
-use rates::{OutOfRange, Rate};
+use frame::FrameFault;
+use rates::Rate;
 use std::fmt;
 
-const RATES: &[(u32, u32, u32, u8, &str)] = &[
-    (1, 3, 0, 6, "[0][0][1][0][0][1]"),
-    (7, 2, 0, 4, "[3][4][3][4]"),
-    (0, 1, 0, 2, "[0][0]"),
-    (1_000_000, 1, 0, 1, "[1000000]"),
-    (1_000_000, 65_535, 0, 4, "[15][15][15][16]"),
-    (1, 3, 2, 3, "[1][0][0]"),
-    (1_000_001, 1, 0, 1, "refused 5"),
-    (1, 0, 0, 1, "refused 5"),
-    (1, 65_536, 0, 1, "refused 5"),
-    (1, 3, 3, 1, "refused 5"),
+// The rate n/d with the remainder r, and what is expected of so many ticks.
+struct Case {
+    n: u32,
+    d: u32,
+    r: u32,
+    ticks: u8,
+    expected: &'static str,
+}
+
+const RATES: &[Case] = &[
+    Case {
+        n: 1,
+        d: 3,
+        r: 0,
+        ticks: 6,
+        expected: "[0][0][1][0][0][1]",
+    },
+    Case {
+        n: 7,
+        d: 2,
+        r: 0,
+        ticks: 4,
+        expected: "[3][4][3][4]",
+    },
+    Case {
+        n: 0,
+        d: 1,
+        r: 0,
+        ticks: 2,
+        expected: "[0][0]",
+    },
+    Case {
+        n: 1_000_000,
+        d: 1,
+        r: 0,
+        ticks: 1,
+        expected: "[1000000]",
+    },
+    Case {
+        n: 1_000_000,
+        d: 65_535,
+        r: 0,
+        ticks: 4,
+        expected: "[15][15][15][16]",
+    },
+    Case {
+        n: 1,
+        d: 3,
+        r: 2,
+        ticks: 3,
+        expected: "[1][0][0]",
+    },
+    Case {
+        n: 1_000_001,
+        d: 1,
+        r: 0,
+        ticks: 1,
+        expected: "refused 5",
+    },
+    Case {
+        n: 1,
+        d: 0,
+        r: 0,
+        ticks: 1,
+        expected: "refused 5",
+    },
+    Case {
+        n: 1,
+        d: 65_536,
+        r: 0,
+        ticks: 1,
+        expected: "refused 5",
+    },
+    Case {
+        n: 1,
+        d: 3,
+        r: 3,
+        ticks: 1,
+        expected: "refused 5",
+    },
 ];
 
-// What a rate is due at each of its next ticks, or the number by which it is refused.
+// What a rate is due at each of its next ticks.
 #[derive(Drop)]
 struct Dues {
-    rate: Result<Rate, OutOfRange>,
+    rate: Rate,
     ticks: u8,
 }
 
 impl fmt::Display for Dues {
     fn fmt<W: fmt::Write>(&self, f: &mut fmt::Formatter<W>) -> fmt::Result {
-        match self.rate {
-            Ok(first) => {
-                let mut rate = first;
-                for _ in 0..self.ticks {
-                    let (due, _) = rate.step();
-                    write!(f, "[{due}]")?;
-                    rate = rate.stepped();
-                }
-                Ok(())
-            }
-            Err(out) => {
-                let number = out.number();
-                write!(f, "refused {number}")
-            }
+        let mut rate = self.rate;
+        for _ in 0..self.ticks {
+            let (due, _) = rate.step();
+            write!(f, "[{due}]")?;
+            rate = rate.stepped();
         }
+        Ok(())
     }
 }
 
+fn of_case(case: &Case) -> Result<Dues, FrameFault> {
+    let rate = Rate::resume(case.n, case.d, case.r)?;
+    Ok(Dues {
+        rate,
+        ticks: case.ticks,
+    })
+}
+
 pub fn run(tally: &mut Tally<'_>) {
-    for (n, d, r, ticks, expected) in RATES {
-        let rate = Rate::resume(*n, *d, *r);
+    for case in RATES {
+        let Case {
+            n,
+            d,
+            r,
+            expected,
+            ..
+        } = case;
         tally.hold(
             format_args!("dues of {n}/{d} with remainder {r}"),
             expected,
-            Dues {
-                rate,
-                ticks: *ticks,
-            },
+            Told(of_case(case)),
         );
     }
 }

@@ -1,59 +1,71 @@
 // Reports of ticks: the shortest that is taken, one that is too short, and one with further places.
+use crate::shown::Told;
+use crate::stack::made;
 use crate::tally::Tally;
+use frame::FrameFault;
 use node::Node;
+use std::fmt;
 use store::{Capacitor, Store};
 
 // What a place has that no tick writes.
 const KEPT: u32 = 9;
 
-fn ticked(
+// What a tick answers.
+#[derive(Drop)]
+struct Ticked {
+    loss: u32,
+    intake: u32,
+}
+
+impl fmt::Display for Ticked {
+    fn fmt<W: fmt::Write>(&self, f: &mut fmt::Formatter<W>) -> fmt::Result {
+        let Ticked { loss, intake } = self;
+        write!(f, "loss {loss}, intake {intake}")
+    }
+}
+
+fn tick(node: &mut Node<Capacitor>, report: &mut [u32]) -> Result<Ticked, FrameFault> {
+    let (loss, intake) = node.tick(4, report)?;
+    Ok(Ticked { loss, intake })
+}
+
+// A tick into this report, and then what one of its places has.
+fn report(
     tally: &mut Tally<'_>,
     node: &mut Node<Capacitor>,
-    what: &str,
     report: &mut [u32],
     expected: &str,
+    place: usize,
+    has: &str,
 ) {
-    match node.tick(4, report) {
-        Ok((loss, intake)) => {
-            tally.hold(what, expected, format_args!("loss {loss}, intake {intake}"));
-        }
-        Err(denial) => {
-            let number = denial.number();
-            tally.hold(what, expected, format_args!("refused {number}"));
-        }
+    let places = report.len();
+    let came = Told(tick(node, report));
+    tally.hold(format_args!("tick into {places} places"), expected, came);
+    if let Some(moved) = report.get(place) {
+        tally.hold(format_args!("then place {place}"), has, moved);
     }
 }
 
 pub fn run(tally: &mut Tally<'_>) {
-    let Ok(capacitor) = Capacitor::new(10) else {
+    let Some(capacitor) = made(tally, "capacitor of 10", Capacitor::new(10)) else {
         return;
     };
     let mut node = Node::new(capacitor);
-    let mut short = [KEPT; 95];
-    ticked(
+    report(tally, &mut node, &mut [KEPT; 95], "refused 1", 94, "9");
+    report(
         tally,
         &mut node,
-        "tick into 95 places",
-        &mut short,
-        "refused 1",
-    );
-    tally.hold("then place 94", "9", short[94]);
-    let mut fit = [KEPT; 96];
-    ticked(
-        tally,
-        &mut node,
-        "tick into 96 places",
-        &mut fit,
+        &mut [KEPT; 96],
         "loss 0, intake 4",
+        95,
+        "0",
     );
-    tally.hold("then place 95", "0", fit[95]);
-    let mut long = [KEPT; 200];
-    ticked(
+    report(
         tally,
         &mut node,
-        "tick into 200 places",
-        &mut long,
+        &mut [KEPT; 200],
         "loss 0, intake 4",
+        96,
+        "9",
     );
-    tally.hold("then place 96", "9", long[96]);
 }

@@ -1,25 +1,43 @@
 // Answers as the trials print them.
+use frame::FrameFault;
 use rates::OutOfRange;
 use std::fmt;
+use std::fmt::Display;
 
-// The number by which a constructor refuses, or 0 where it makes what is asked.
-pub fn refusal<T: Drop>(made: Result<T, OutOfRange>) -> u8 {
-    match made {
-        Ok(_) => 0,
-        Err(out) => out.number(),
+// What was answered, or the number of the refusal. What refuses a number or a call refuses a frame too, under the same number.
+#[derive(Drop)]
+pub struct Told<T>(pub Result<T, FrameFault>);
+
+impl<T: Display> fmt::Display for Told<T> {
+    fn fmt<W: fmt::Write>(&self, f: &mut fmt::Formatter<W>) -> fmt::Result {
+        match &self.0 {
+            Ok(answer) => write!(f, "{answer}"),
+            Err(fault) => {
+                let number = fault.number();
+                write!(f, "refused {number}")
+            }
+        }
     }
 }
 
-// The first `len` bytes of an array, a line feed as `$`.
+// The number by which a constructor refuses, or 0 where it makes what is asked.
 #[derive(Drop)]
-pub struct Written<'a> {
-    pub bytes: &'a [u8],
-    pub len: usize,
+pub struct Refusal(pub Option<OutOfRange>);
+
+impl fmt::Display for Refusal {
+    fn fmt<W: fmt::Write>(&self, f: &mut fmt::Formatter<W>) -> fmt::Result {
+        let number = self.0.map_or(0, OutOfRange::number);
+        write!(f, "{number}")
+    }
 }
+
+// An answer line, with its line feed as `$`.
+#[derive(Drop)]
+pub struct Written<'a>(pub &'a [u8]);
 
 impl fmt::Display for Written<'_> {
     fn fmt<W: fmt::Write>(&self, f: &mut fmt::Formatter<W>) -> fmt::Result {
-        for b in self.bytes.iter().take(self.len) {
+        for b in self.0 {
             f.write_char(if *b == b'\n' { '$' } else { char::from(*b) })?;
         }
         Ok(())
