@@ -61,6 +61,7 @@ pub enum Frame {
     Audit,
 }
 
+// A function for each kind, so that each takes its fields apart by one pattern of named fields and nothing more.
 fn capacitor(fields: &[u8]) -> Result<Frame, FrameFault>
     ensures result { result ≡ capacitor_of fields.now }
 {

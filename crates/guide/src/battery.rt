@@ -30,6 +30,7 @@ impl Battery {
     }
 }
 
+// Written out in full, as an example of a store of one's own: each call is its cell's.
 impl Store for Battery {
     ghost held = { λ b. (battery_means b).held };
 

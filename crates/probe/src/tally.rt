@@ -15,7 +15,7 @@ pub struct Tally {
     pub requested: u64,
     pub granted: u64,
     pub denied: u64,
-    // The denied requests by refusal number.
+    // The denied requests by refusal number: the values that a Denial carries are not counted apart.
     pub reasons: [u64; REFUSALS],
     pub settled: u64,
     pub spent: u64,

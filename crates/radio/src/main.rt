@@ -19,6 +19,8 @@ const RADIO_TASK: u8 = 7;
 
 const RADIO_TAP: u8 = 0;
 
+// That calls led to the node is the clause `run` and no ghost field: a run is data, and a ghost field holds a fact.
+
 // A node over a full battery with a standby current.
 fn powered(capacity: u32, standby: u32) -> Result<Node<Layered<Battery, Standby>>, OutOfRange>
     ensures run { IfOk result (Reached supply_store) }

@@ -59,7 +59,7 @@ impl Recount {
         self.verdicts.accepted
     }
 
-    // How many were refused with this number.
+    // How many were refused with this number. Any number may be asked for, so it is no enum.
     pub fn refused(&self, number: u8) -> u64
         ensures result { (xs : List Reply) → Counts xs self.now → result ≡ capped (how_many (refused_with number) xs) }
     {

@@ -5,6 +5,7 @@ use crate::row::Row;
 
 mod noting;
 
+// All rows are made at once, so that noting a denial never needs memory, as an entry of a map might.
 #[derive(Drop)]
 pub(crate) struct Table {
     rows: Vec<Row>,

@@ -57,6 +57,7 @@ fn build(frame: Frame) -> Result<Simulator, FrameFault>
     }
 }
 
+// That calls led to the node is the clause `run` and no ghost field: a run is data, and a ghost field holds a fact.
 impl Simulator {
     // Nothing stands before the first frame.
     pub fn new() -> Simulator

@@ -115,6 +115,7 @@ impl Store for Bank {
         ensures after { self.new ≡ with_cells (emptied q self.old.cells.items) }
     {
         let mut left = q;
+        // By place: what `iter_mut().rev()` leaves behind is not told by its contract.
         let cells = self.cells.as_mut_slice();
         for i in (0..cells.len()).rev() {
             left -= cells[i].drain(left);

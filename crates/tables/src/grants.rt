@@ -12,6 +12,7 @@ pub struct Grant {
     pub serial: u32,
     pub amount: u32,
     pub reserve: u8,
+    // Parked or out: a flag, for there is no third.
     pub parked: bool,
 }
 
