@@ -6,7 +6,7 @@ use std::fmt;
 use std::fmt::Display;
 use store::{Fault, Store};
 
-// No closure: one table runs on stores of several types, and each call is told by its name.
+// Data and no closures, since each call is told by its name and by what it asks.
 #[derive(Clone, Copy)]
 pub enum Call {
     Held,
@@ -46,15 +46,12 @@ impl fmt::Display for Came {
         match self {
             Came::Number(number) => write!(f, "{number}"),
             Came::Drawn(Ok(())) => f.write_str("accepted"),
-            Came::Drawn(
-                Err(
-                    Fault {
-                        height,
-                        kind,
-                        deficit,
-                    },
-                ),
-            ) => {
+            Came::Drawn(Err(fault)) => {
+                let Fault {
+                    height,
+                    kind,
+                    deficit,
+                } = fault;
                 let kind = char::from(*kind);
                 write!(f, "fault height {height}, kind {kind}, deficit {deficit}")
             }

@@ -94,6 +94,16 @@ struct Dues {
     ticks: u8,
 }
 
+impl Dues {
+    fn of(case: &Case) -> Result<Dues, FrameFault> {
+        let rate = Rate::resume(case.n, case.d, case.r)?;
+        Ok(Dues {
+            rate,
+            ticks: case.ticks,
+        })
+    }
+}
+
 impl fmt::Display for Dues {
     fn fmt<W: fmt::Write>(&self, f: &mut fmt::Formatter<W>) -> fmt::Result {
         let mut rate = self.rate;
@@ -104,14 +114,6 @@ impl fmt::Display for Dues {
         }
         Ok(())
     }
-}
-
-fn of_case(case: &Case) -> Result<Dues, FrameFault> {
-    let rate = Rate::resume(case.n, case.d, case.r)?;
-    Ok(Dues {
-        rate,
-        ticks: case.ticks,
-    })
 }
 
 pub fn run(tally: &mut Tally<'_>) {
@@ -126,7 +128,7 @@ pub fn run(tally: &mut Tally<'_>) {
         tally.hold(
             format_args!("dues of {n}/{d} with remainder {r}"),
             expected,
-            Told(of_case(case)),
+            Told(Dues::of(case)),
         );
     }
 }

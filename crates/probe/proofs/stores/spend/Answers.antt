@@ -7,4 +7,4 @@ pub unreachable-requires : goal.unreachable-requires
 unreachable-requires g c =
     let m = store_means g.S.Store c.grant.new.self in
     let slip = c.in-Ok.ensures.slip in
-    out_settles c.grant.new.self c.in-Ok.slip c.args.amount m _ slip.1 (omega (arith, slip.0)) (c.in-Err-settle.ensures.judged m)
+    out_settles c.grant.new.self c.in-Ok.slip _ m _ slip.1 (omega (arith, slip.0)) (c.in-Err-settle.ensures.judged m)

@@ -10,4 +10,4 @@ unreachable-requires g c =
     let slip = c.in_ok-slip.ensures.slip in
     let m = store_means bank_store node in
     let out = stays_out c.grant.new.self node c.in_ok-slip.slip c.tick-ticked.ensures.grants slip.1 in
-    out_settles node c.in_ok-slip.slip 2 m _ out (omega (arith, slip.0)) (c.in-Err.ensures.judged m)
+    out_settles node c.in_ok-slip.slip _ m _ out (omega (arith, slip.0)) (c.in-Err.ensures.judged m)

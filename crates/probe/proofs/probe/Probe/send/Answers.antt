@@ -8,4 +8,4 @@ unreachable-requires g c =
     let node = c.request.new.self.node in
     let slip = c.in_ok-slip.ensures.slip in
     let m = store_means g.S.Store node in
-    out_settles node c.in_ok-slip.slip 31 m _ slip.1 (omega (arith, slip.0)) (c.in-Err.ensures.judged m)
+    out_settles node c.in_ok-slip.slip _ m _ slip.1 (omega (arith, slip.0)) (c.in-Err.ensures.judged m)
