@@ -1,9 +1,15 @@
--- What a sound battery keeps to, as every store does. Assumes nothing.
+-- What a sound battery and a standby current over a sound store keep to, as every store does. Assumes nothing.
 --     battery_laws b s      a sound battery means a sound store
+--     standby_laws m s      the meaning m of a sound store, with the stage of a standby current on top, is one of a sound store
 use Rattle.std.proofs.Common.{rules}
-use Rattle.store.specs.Meaning.{Sound}
+use Rattle.store.specs.Meaning.{Meaning, Sound, with_stage, top}
+use Rattle.store.proofs.Stages.{sound_more}
+use Rattle.layers.specs.Laws.{all_under}
 use Rattle.guide.specs.declared.battery.Battery.{Battery}
 use Rattle.guide.specs.Battery.{battery_means, BatterySound}
 
 pub battery_laws : (b : Battery) → BatterySound b → Sound (battery_means b)
 battery_laws b s = search rules
+
+pub standby_laws : (m : Meaning) → Sound m → Sound (with_stage (record { kind = 89; available = top m.stages }) m)
+standby_laws m s = sound_more m _ s tt (all_under (top m.stages))

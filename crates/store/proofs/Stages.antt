@@ -1,5 +1,5 @@
 -- Laws of a stage on top of others, for the layers.
-use Rattle.std.proofs.Common.{◌≡◌, ℕ, ◌+◌, ◌-◌, ◌<◌, ◌≤◌, min, cond, T, ltb, List, [], ◌∷◌, ◌++◌, length, Ok, Err, Result, sym, refl, ap, ◌∙◌, arith, length-append, le-ltb, lt-ltb}
+use Rattle.std.proofs.Common.{◌≡◌, ℕ, ◌+◌, ◌-◌, ◌<◌, ◌≤◌, min, cond, T, ltb, List, [], ◌∷◌, ◌++◌, length, IfErr, Ok, Err, Result, sym, refl, ap, ◌∙◌, arith, length-append, le-ltb, lt-ltb}
 use Rattle.store.specs.declared.fault.Fault.{Fault}
 use Rattle.store.specs.Meaning.{Stage, Meaning, Sound, Lettered, Falling, letter, top, shown, height_of, lower, lowered, with_stage, fault_from, kinds, SameMake, Charged, after_draw, Drawn, Drained, Ticked}
 
@@ -44,6 +44,9 @@ sound_more m s sound t le = record {
   within = sound.within;
   bounded = sound.bounded;
 }
+
+pub height_more : (m : Meaning) (s : Stage) → Sound m → height_of (with_stage s m).stages ≡ min (height_of m.stages + 1) 255
+height_more m s sound = omega (arith, sound.some, length-append m.stages (s ∷ []))
 
 make_more : (m n : Meaning) (s t : Stage) → t.kind ≡ s.kind → SameMake m n → SameMake (with_stage s m) (with_stage t n)
 make_more m n s t k make = record {
@@ -106,3 +109,8 @@ refused_top q m s f sound le lt height kind deficit = (
       ∙ sym (fault_top 0 q m.held m.stages s sound.falling le lt sound.some),
   refl,
 )
+
+-- what holds of every refusal, made weaker
+pub refused_weaker : {X Y : Type 0} (r : Result X Y) {P Q : Type 0} → (P → Q) → IfErr r (λ _. P) → IfErr r (λ _. Q)
+refused_weaker (Ok x) f p = tt
+refused_weaker (Err y) f p = f p
