@@ -18,6 +18,7 @@ fn balances(totals: &Totals) -> bool
 #[derive(Clone, Copy)]
 pub struct Balance(pub Totals);
 
+// By hand: a derive has no words that depend on whether the totals balance.
 impl fmt::Display for Balance {
     fn fmt<W: fmt::Write>(&self, f: &mut fmt::Formatter<W>) -> fmt::Result {
         let Totals {

@@ -55,6 +55,7 @@ fn tell_tap<W: fmt::Write>(f: &mut fmt::Formatter<W>, tap: NewTap) -> fmt::Resul
 #[derive(Clone, Copy)]
 pub struct Matter(pub Frame);
 
+// By hand, as the ones after it: each is put together from a frame, which no derive does.
 impl fmt::Display for Matter {
     fn fmt<W: fmt::Write>(&self, f: &mut fmt::Formatter<W>) -> fmt::Result {
         match self.0 {

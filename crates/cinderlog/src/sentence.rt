@@ -9,6 +9,7 @@ use std::fmt;
 #[derive(Clone, Copy)]
 struct Refusal(Frame, FrameFault);
 
+// By hand, as the ones after it: each is put together from a frame, a reply or a refusal, which no derive does.
 impl fmt::Display for Refusal {
     fn fmt<W: fmt::Write>(&self, f: &mut fmt::Formatter<W>) -> fmt::Result {
         let matter = Matter(self.0);

@@ -47,7 +47,7 @@ impl Table<'_> {
         Ok(())
     }
 
-    // The denials of a task under a number, by reserve.
+    // The denials of a task under a number, by reserve. The number is what the recount is asked by, and is told.
     fn tell_task<W: fmt::Write>(
         self,
         f: &mut fmt::Formatter<W>,
@@ -66,7 +66,7 @@ impl Table<'_> {
         Ok(())
     }
 
-    // The denials under a number, by task and reserve.
+    // The denials under a number, by task and reserve; it is a number here for the same reason.
     fn tell_number<W: fmt::Write>(self, f: &mut fmt::Formatter<W>, number: u8) -> fmt::Result {
         for task in 0..=u8::MAX {
             self.tell_task(f, number, task)?;
@@ -84,6 +84,7 @@ impl Table<'_> {
     }
 }
 
+// By hand: no derive writes a table.
 impl fmt::Display for Table<'_> {
     fn fmt<W: fmt::Write>(&self, f: &mut fmt::Formatter<W>) -> fmt::Result {
         self.tell_lines(f)?;

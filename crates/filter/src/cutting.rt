@@ -23,6 +23,8 @@ pub struct Cutter<'a, S: Script> {
     line: Line,
 }
 
+// That it holds the same reference, each contract says: it is said of a cutter before and after a call, and a type's
+// invariant of one value.
 impl<'a, S: Script> Cutter<'a, S> {
     // Nothing has been read yet.
     pub fn new(script: &'a mut S) -> Cutter<'a, S>

@@ -21,6 +21,7 @@ enum Stop {
 fn take_all<S: Script>(script: &mut S, mut input: Stdin) -> Result<(), Stop> {
     let mut cutter = Cutter::new(script);
     let mut chunk = [0; CHUNK];
+    // It counts, since every loop is proved to end, and nothing says that an input does.
     for _ in 0..u64::MAX {
         let len = input.read(&mut chunk).map_err(Stop::Input)?;
         if len == 0 {

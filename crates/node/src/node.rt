@@ -42,6 +42,8 @@ fn draw<S: Store>(store: &mut S, task: u8, reserve: u8, amount: u32) -> Result<(
     })
 }
 
+// That a refused call changes nothing, and that four calls leave the store as it is, each contract says: it is said of
+// that call's answer, and no type has it.
 impl<S: Store> Node<S> {
     // A node over any store: only the root is open, and its level is what the store holds.
     pub fn new(store: S) -> Node<S>

@@ -20,6 +20,8 @@ const RADIO_TASK: u8 = 7;
 const RADIO_TAP: u8 = 0;
 
 // That calls led to the node is the clause `run` and no ghost field: a run is data, and a ghost field holds a fact.
+// `request` and `send` do what the frames 06 and 07 do: they are the example of how a slip is handled, written out.
+// `request_either` is a match, since it prints and asks again: a closure of `or_else` would be no plainer.
 
 // A node over a full battery with a standby current.
 fn powered(capacity: u32, standby: u32) -> Result<Node<Layered<Battery, Standby>>, OutOfRange>

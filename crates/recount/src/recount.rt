@@ -8,6 +8,8 @@ use crate::verdicts::Verdicts;
 use frame::{Answer, FrameFault};
 use std::alloc::{AllocError, Global};
 
+// Of which list it is the recount is a premise of its clauses and no ghost field: a list is data, and a ghost field
+// holds a fact.
 #[derive(Drop)]
 pub struct Recount {
     verdicts: Verdicts,
@@ -73,7 +75,7 @@ impl Recount {
         self.denials.all
     }
 
-    // The denials under 16 or 17 of a task at a reserve.
+    // The denials under 16 or 17 of a task at a reserve. Any number may be asked for here too.
     pub fn denied(&self, number: u8, task: u8, reserve: u8) -> Row
         ensures result { (xs : List Reply) → Counts xs self.now → result ≡ row_of (denied_to number task reserve) xs }
     {

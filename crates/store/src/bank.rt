@@ -133,7 +133,7 @@ impl Store for Bank {
     }
 }
 
-// What each cell holds, cell 0 first, as `[5, 2, 0]`.
+// What each cell holds, cell 0 first, as `[5, 2, 0]`. By hand: no derive goes over a list.
 impl fmt::Display for Bank {
     fn fmt<W: fmt::Write>(&self, f: &mut fmt::Formatter<W>) -> fmt::Result {
         f.debug_list()

@@ -11,7 +11,8 @@ pub trait Store {
 
     ghost stages: { Self → List Stage };
 
-    // The value is well made; every call keeps it so.
+    // The value is well made; every call keeps it so. It is no invariant: a layer over any store knows only what that
+    // store promises.
     ghost sound: { Self → Type 0 };
 
     // The letter of this kind of store or layer.

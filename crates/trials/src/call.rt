@@ -19,6 +19,7 @@ pub enum Call {
     Tick,
 }
 
+// By hand, as that of an answer: the trials compare these words, and a derive of text is for errors.
 impl fmt::Display for Call {
     fn fmt<W: fmt::Write>(&self, f: &mut fmt::Formatter<W>) -> fmt::Result {
         match self {

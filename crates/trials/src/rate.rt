@@ -104,6 +104,7 @@ impl Dues {
     }
 }
 
+// By hand: no derive makes steps.
 impl fmt::Display for Dues {
     fn fmt<W: fmt::Write>(&self, f: &mut fmt::Formatter<W>) -> fmt::Result {
         let mut rate = self.rate;

@@ -17,6 +17,7 @@ struct Ticked {
     intake: u32,
 }
 
+// By hand: a derive of text is for errors.
 impl fmt::Display for Ticked {
     fn fmt<W: fmt::Write>(&self, f: &mut fmt::Formatter<W>) -> fmt::Result {
         let Ticked { loss, intake } = self;

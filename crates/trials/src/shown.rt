@@ -8,6 +8,7 @@ use std::fmt::Display;
 #[derive(Drop)]
 pub struct Told<T>(pub Result<T, FrameFault>);
 
+// By hand, as the ones after it: each is put together from a result, an option or bytes, which no derive does.
 impl<T: Display> fmt::Display for Told<T> {
     fn fmt<W: fmt::Write>(&self, f: &mut fmt::Formatter<W>) -> fmt::Result {
         match &self.0 {
