@@ -1,14 +1,13 @@
 // A script as far as it has been told.
 ghost use Rattle.std.specs.Prelude.{◌≡◌, [], IfOk};
 ghost use Rattle.recount.specs.Recount.{Counts};
-ghost use Rattle.simulator.specs.Simulator.{frame_in};
 ghost use Rattle.cinderlog.specs.Session.{Logged};
 
 use crate::balance::Balance;
 use crate::sentence::{Entry, NoFrame};
 use crate::table::Table;
 use filter::Script;
-use frame::{Answer, Frame, FrameFault, decode};
+use frame::{Answer, Frame, FrameFault};
 use recount::Recount;
 use simulator::Simulator;
 use std::alloc::Global;
@@ -22,14 +21,6 @@ pub struct Session {
     // The accepted ticks.
     ticks: u64,
     output: BufWriter<Stdout>,
-}
-
-// The frame that a line is.
-fn frame_of(line: &[u8]) -> Result<Frame, FrameFault>
-    ensures result { result ≡ frame_in line.now }
-{
-    let bytes = decode(line)?;
-    Frame::from_bytes(bytes.as_slice())
 }
 
 impl Session {
@@ -85,7 +76,7 @@ impl Script for Session {
         self.count_tick(reply);
         let number = self.recount.lines();
         let ticks = self.ticks;
-        match frame_of(line) {
+        match Frame::of_line(line) {
             Ok(frame) => {
                 let entry = Entry {
                     frame,

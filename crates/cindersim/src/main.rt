@@ -14,7 +14,7 @@ use std::io;
 use std::io::{Stdout, Write};
 use std::process::ExitCode;
 
-const HELD: usize = 65_536;
+const BUFFER: usize = 65_536;
 
 const HELP: &str =
     "cindersim: a node's reserves, taps and grants over harvested energy, driven by frames
@@ -56,7 +56,7 @@ An accepted frame is answered 00 and the fields told, a refused one its number:
 struct Session {
     simulator: Simulator,
     output: Stdout,
-    answers: ArrayVec<u8, HELD>,
+    answers: ArrayVec<u8, BUFFER>,
 }
 
 impl Session {
@@ -80,6 +80,7 @@ impl Script for Session {
             self.write()?;
         }
         let mut answer = [0; ROOM];
+        // The array is as long as an answer may ask, so there is one.
         if let Ok(len) = self.simulator.answer(line, &mut answer) {
             self.answers.try_extend_from_slice(&answer[..len]).unwrap();
         }

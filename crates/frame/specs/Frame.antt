@@ -3,8 +3,10 @@
 --     sized fs n f             the frame f, where its fields fs are n bytes
 --     open_of fs, close_of fs, tap_of fs, shut_of fs, grant_of fs, settle_of fs, tick_of fs, audit_of fs      the call of each kind with the fields fs
 --     capacitor_of fs, layered_of fs, bank_of fs      the frame with the fields fs that builds a node over each store
---     frame_of_lem bs              the frame whose bytes are bs
+--     frame_of_lem bs          the frame whose bytes are bs
+--     frame_in line            the frame that a line is, or why it is none
 use Rattle.std.specs.Prelude.{ℕ, ◌+◌, ◌*◌, cond, List, [], ◌∷◌, length, Ok, Err, Result, ◌==◌, slice_index}
+use Rattle.frame.specs.Digits.{line_of}
 use Rattle.frame.specs.declared.fault.FrameFault.{FrameFault}
 use Rattle.frame.specs.declared.fault.FrameFault.TheVariants.{UnknownFrame}
 use Rattle.frame.specs.declared.frame.Frame.{Frame}
@@ -78,3 +80,6 @@ frame_of_lem (k ∷ fs) =
     (cond (k == 17) (layered_of fs)
     (cond (k == 18) (bank_of fs)
     (Err UnknownFrame)))))))))))
+
+abbrev pub frame_in : List ℕ → Result Frame FrameFault
+frame_in line = elim (line_of line) [ Ok bs ↦ frame_of_lem bs | Err f ↦ Err f ]

@@ -1,7 +1,8 @@
 // The frames: a first byte that names the kind, then that kind's fields and nothing more.
 ghost use Rattle.std.specs.Prelude.{◌≡◌};
-ghost use Rattle.frame.specs.Frame.{frame_of_lem, open_of, close_of, tap_of, shut_of, grant_of, settle_of, tick_of, audit_of, capacitor_of, layered_of, bank_of};
+ghost use Rattle.frame.specs.Frame.{frame_in, frame_of_lem, open_of, close_of, tap_of, shut_of, grant_of, settle_of, tick_of, audit_of, capacitor_of, layered_of, bank_of};
 
+use crate::digits::decode;
 use crate::fault::FrameFault;
 use node::{NewReserve, NewTap};
 
@@ -208,6 +209,14 @@ fn audit(fields: &[u8]) -> Result<Frame, FrameFault>
 }
 
 impl Frame {
+    // The frame that a line is, of which the first 81 bytes tell as much as the whole.
+    pub fn of_line(line: &[u8]) -> Result<Frame, FrameFault>
+        ensures result { result ≡ frame_in line.now }
+    {
+        let bytes = decode(line)?;
+        Frame::from_bytes(bytes.as_slice())
+    }
+
     // The frame of a line's bytes.
     pub fn from_bytes(bytes: &[u8]) -> Result<Frame, FrameFault>
         ensures result { result ≡ frame_of_lem bytes.now }

@@ -3,7 +3,7 @@ ghost use Rattle.std.specs.Prelude.{◌≤◌};
 
 mod filling;
 
-// It has its own array and length, since it is `Copy` and an `ArrayVec` is not.
+// It has its own array and length, to stay `Copy`, which an `ArrayVec` is not.
 #[derive(Clone, Copy)]
 pub struct Prefix<const N: usize> {
     array: [u8; N],

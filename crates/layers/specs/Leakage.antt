@@ -2,7 +2,7 @@
 --     new_leakage p            what is made of the part p: a leakage that has kept nothing, where p is at most 10,000
 --     leak_of held p r         what leaks at a tick: t div 10,000, where t is held × p + r
 --     kept held p r            the remainder after it: t mod 10,000
---     LeakageSound l           the part is at most 10,000, the remainder below 10,000
+--     LeakSound l              the part is at most 10,000, the remainder below 10,000
 --     leakage_layer            a leakage's members as a layer: its kind is L, it leaves what is available below, and a tick
 --                              lets leak_of leak and keeps the remainder
 --     leakage_store G          the members, as a store, of a leakage over a store whose members are G
@@ -24,15 +24,15 @@ leak_of held p r = (held * p + r) / whole
 abbrev pub kept : ℕ → ℕ → ℕ → ℕ
 kept held p r = (held * p + r) % whole
 
-abbrev pub LeakageSound : Leakage → Type 0
-LeakageSound l = (l.part ≤ whole) × (l.remainder < whole)
+abbrev pub LeakSound : Leakage → Type 0
+LeakSound l = (l.part ≤ whole) × (l.remainder < whole)
 
 abbrev pub leakage_layer : LayerGhosts Leakage
 leakage_layer = record {
   leaves = λ l a. a;
   leak = λ l held. leak_of held l.part l.remainder;
   after = λ l held. record { part = l.part; remainder = kept held l.part l.remainder };
-  sound = LeakageSound;
+  sound = LeakSound;
   KIND = 76;
 }
 

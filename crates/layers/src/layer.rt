@@ -4,6 +4,7 @@ ghost use Rattle.store.specs.Meaning.{letter};
 
 use crate::layered::Layered;
 
+// No method has a default body: it would be proved once, for ghost members that it does not know.
 pub trait Layer {
     // How much it leaves available where so much is available below.
     ghost leaves: { Self → ℕ → ℕ } = { λ l below. below };

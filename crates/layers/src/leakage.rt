@@ -1,6 +1,6 @@
 // Leakage: at each tick a part of what the store below holds is lost.
 ghost use Rattle.std.specs.Prelude.{◌≡◌, IfOk, refl};
-ghost use Rattle.layers.specs.Leakage.{new_leakage, LeakageSound, leakage_layer};
+ghost use Rattle.layers.specs.Leakage.{new_leakage, LeakSound, leakage_layer};
 ghost use Rattle.layers.specs.Laws.{all_under};
 
 use crate::layer::Layer;
@@ -17,7 +17,7 @@ impl Leakage {
     // A leakage that has kept nothing yet.
     pub fn new(part: u16) -> Result<Leakage, OutOfRange>
         ensures result { result ≡ new_leakage part }
-        ensures sound { IfOk result LeakageSound }
+        ensures sound { IfOk result LeakSound }
     {
         if part > PARTS {
             return Err(OutOfRange);

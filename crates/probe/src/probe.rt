@@ -1,5 +1,6 @@
 // A soil probe whose radio is fed by a tap, and sends whenever its dues cover a send.
-ghost use Rattle.std.specs.Prelude.{IfOk, ◌≡◌, ◌+◌, ◌-◌, ◌/◌, ◌^◌, min, nat_le};
+ghost use Rattle.std.specs.Prelude.{IfOk, ◌≡◌, ◌-◌, ◌/◌, nat_le};
+ghost use Rattle.tables.specs.Books.{plus};
 ghost use Rattle.node.specs.Node.{IsOut};
 
 use crate::tally::Tally;
@@ -77,7 +78,7 @@ impl<S: Store> Probe<S> {
 
     // Requests a grant for one send, and counts how it went.
     fn request(&mut self) -> Result<Slip, Denial>
-        ensures requested { self.new.tally.requested ≡ min (self.old.tally.requested + 31) (2 ^ 64 - 1) }
+        ensures requested { self.new.tally.requested ≡ plus self.old.tally.requested 31 }
         ensures slip { IfOk result (λ slip. (slip.amount ≡ 31) × IsOut slip self.new.node) }
     {
         self.tally.request(SEND);

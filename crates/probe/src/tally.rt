@@ -1,11 +1,9 @@
 // What the radio was due, what it got, and how its requests went.
-ghost use Rattle.std.specs.Prelude.{◌≡◌, ◌+◌, ◌-◌, ◌^◌, ◌<◌, min, slice_index, slice_set};
+ghost use Rattle.std.specs.Prelude.{◌≡◌, ◌<◌, slice_index, slice_set};
+ghost use Rattle.tables.specs.Books.{plus};
 ghost use Rattle.node.specs.Denial.{number_of};
 
-use node::Denial;
-
-// The refusal numbers end below this.
-const REFUSALS: usize = 18;
+use node::{Denial, REFUSALS};
 
 #[derive(Default, Drop)]
 pub struct Tally {
@@ -31,31 +29,31 @@ impl Tally {
     }
 
     pub fn tick(&mut self, moved: u32)
-        ensures ticks { self.new.ticks ≡ min (self.old.ticks + 1) (2 ^ 64 - 1) }
-        ensures delivered { self.new.delivered ≡ min (self.old.delivered + moved) (2 ^ 64 - 1) }
+        ensures ticks { self.new.ticks ≡ plus self.old.ticks 1 }
+        ensures delivered { self.new.delivered ≡ plus self.old.delivered moved }
     {
         self.ticks = self.ticks.saturating_add(1);
         self.delivered = self.delivered.saturating_add(u64::from(moved));
     }
 
     pub fn request(&mut self, amount: u32)
-        ensures requested { self.new.requested ≡ min (self.old.requested + amount) (2 ^ 64 - 1) }
+        ensures requested { self.new.requested ≡ plus self.old.requested amount }
     {
         self.requests = self.requests.saturating_add(1);
         self.requested = self.requested.saturating_add(u64::from(amount));
     }
 
     pub fn grant(&mut self)
-        ensures granted { self.new.granted ≡ min (self.old.granted + 1) (2 ^ 64 - 1) }
+        ensures granted { self.new.granted ≡ plus self.old.granted 1 }
         ensures requested { self.new.requested ≡ self.old.requested }
     {
         self.granted = self.granted.saturating_add(1);
     }
 
     pub fn deny(&mut self, denial: Denial)
-        ensures denied { self.new.denied ≡ min (self.old.denied + 1) (2 ^ 64 - 1) }
+        ensures denied { self.new.denied ≡ plus self.old.denied 1 }
         ensures requested { self.new.requested ≡ self.old.requested }
-        ensures reasons { number_of denial < 18 → self.new.reasons ≡ slice_set self.old.reasons (number_of denial) (min (slice_index self.old.reasons (number_of denial) + 1) (2 ^ 64 - 1)) }
+        ensures reasons { number_of denial < 18 → self.new.reasons ≡ slice_set self.old.reasons (number_of denial) (plus (slice_index self.old.reasons (number_of denial)) 1) }
     {
         self.denied = self.denied.saturating_add(1);
         let number = usize::from(denial.number());
@@ -65,8 +63,8 @@ impl Tally {
     }
 
     pub fn settle(&mut self, used: u32, lost: u32)
-        ensures spent { self.new.spent ≡ min (self.old.spent + used) (2 ^ 64 - 1) }
-        ensures lost { self.new.lost ≡ min (self.old.lost + lost) (2 ^ 64 - 1) }
+        ensures spent { self.new.spent ≡ plus self.old.spent used }
+        ensures lost { self.new.lost ≡ plus self.old.lost lost }
     {
         self.settled = self.settled.saturating_add(1);
         self.spent = self.spent.saturating_add(u64::from(used));

@@ -7,6 +7,7 @@ use Rattle.node.specs.Calls.{Event, History}
 use Rattle.node.specs.Node.{Extends, SoundNode}
 use Rattle.node.specs.Runs.{Run, new, next}
 use Rattle.node.proofs.Reaching.{called}
+use Rattle.frame.specs.Frame.{frame_in}
 use Rattle.frame.specs.declared.frame.Frame.{Frame}
 use Rattle.frame.specs.declared.frame.Frame.TheVariants.{Capacitor as CapacitorFrame, Layered as LayeredFrame, Bank as BankFrame, Open, Close, Tap, Shut, Grant, Settle, Tick, Audit}
 use Rattle.frame.specs.declared.fault.FrameFault.{FrameFault}
@@ -15,7 +16,7 @@ use Rattle.simulator.specs.declared.simulator.Simulator.{Simulator}
 use Rattle.simulator.specs.declared.simulator.Simulator.TheVariants.{Empty, Single, Layered, Cells}
 use Rattle.store.specs.Capacitor.{new_capacitor, capacitor_store}
 use Rattle.store.specs.Bank.{new_bank, bank_store}
-use Rattle.simulator.specs.Simulator.{ReachedOn, Reached, Built, Builds, Stands, ServesOn, ServesIn, Serves, Replied, Replies, frame_in, layered_store, layered_of, Parks, SettledWith, Ends, SameIfRefused}
+use Rattle.simulator.specs.Simulator.{ReachedOn, Reached, Built, Builds, Stands, ServesOn, ServesIn, Serves, Replied, Replies, layered_store, layered_of, Parks, SettledWith, Ends, SameIfRefused}
 
 module _ {S : Type 0} (G : Ghosts S) where
   pub on : (n m : Node S) (e : Event) → Extends G n e m → ReachedOn G n → ReachedOn G m

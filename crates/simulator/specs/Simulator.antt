@@ -10,7 +10,6 @@
 --     Built f r                  what the frame f builds, where no node stands
 --     Stands made r s'           what a frame is answered where no node stood, and what stands after it
 --     Serves s f r s'            what the frame f is answered, and what stands after it
---     frame_in line              the frame that a line is, or why it is none
 --     Replies s line r s'        what the line is answered, and what stands after it
 --     SameIfRefused r s s'       what stood is what stands, where r is a refusal
 --     Answers s line out r s' out'      the same with the answer array before and after
@@ -40,8 +39,7 @@ use Rattle.frame.specs.declared.fault.FrameFault.TheVariants.{ShortAnswer, OutOf
 use Rattle.frame.specs.declared.answer.Answer.{Answer}
 use Rattle.frame.specs.declared.answer.Answer.TheVariants.{Done, Granted, Settled, Ticked, Audited}
 use Rattle.frame.specs.Answer.{answered, after_answer}
-use Rattle.frame.specs.Digits.{line_of}
-use Rattle.frame.specs.Frame.{frame_of_lem}
+use Rattle.frame.specs.Frame.{frame_in}
 use Rattle.simulator.specs.declared.simulator.Simulator.{Simulator}
 use Rattle.simulator.specs.declared.simulator.Simulator.TheVariants.{Empty, Single, Layered, Cells}
 
@@ -148,9 +146,6 @@ Serves (Layered n) f r s' = ServesIn layered_store Layered n f r s'
 Serves (Cells n) f r s' = ServesIn bank_store Cells n f r s'
 
 -- a line: its digits, then its frame, then what is served
-
-abbrev pub frame_in : List ℕ → Result Frame FrameFault
-frame_in line = elim (line_of line) [ Ok bs ↦ frame_of_lem bs | Err f ↦ Err f ]
 
 abbrev pub Replied : Simulator → Result Frame FrameFault → Result Answer FrameFault → Simulator → Type 0
 Replied s (Ok f) r s' = Serves s f r s'

@@ -4,7 +4,7 @@ ghost use Rattle.simulator.specs.Simulator.{Reached, layered_of, layered_store, 
 ghost use Rattle.simulator.specs.declared.simulator.Simulator.TheVariants.{Empty as Nothing};
 
 use crate::serve::serve;
-use frame::{Answer, Frame, FrameFault, ROOM, decode, write_answer};
+use frame::{Answer, Frame, FrameFault, ROOM, write_answer};
 use layers::{Floor, Layer, Layered, Leakage};
 use node::Node;
 use rates::OutOfRange;
@@ -15,14 +15,14 @@ pub type Layers = Layered<Layered<Capacitor, Floor>, Leakage>;
 
 #[derive(Drop)]
 pub enum Simulator {
-    // No frame has built a node yet.
+    // No frame has built a node yet. It is a case and no Option, which would need a second enum for the other three.
     Empty,
     Single(Node<Capacitor>),
     Layered(Node<Layers>),
     Cells(Node<Bank>),
 }
 
-// A capacitor under a floor under leakage.
+// Its numbers are a frame's three fields, handed on here alone.
 fn layers(capacity: u32, floor: u32, part: u16) -> Result<Layers, OutOfRange>
     ensures result { result ≡ layered_of capacity floor part }
     ensures sound { IfOk result layered_store.sound }
@@ -88,8 +88,7 @@ impl Simulator {
         ensures replies { Replies self.old line.now result self.new }
         ensures same { Reached self.old → SameIfRefused result self.old self.new }
     {
-        let bytes = decode(line)?;
-        let frame = Frame::from_bytes(bytes.as_slice())?;
+        let frame = Frame::of_line(line)?;
         self.serve(frame)
     }
 

@@ -4,6 +4,7 @@ ghost use Rattle.store.specs.Meaning.{Stage, meaning, Sound, Charged, Drawn, Dra
 
 use crate::fault::Fault;
 
+// No method has a default body: it would be proved once, for ghost members that it does not know.
 pub trait Store {
     ghost held: { Self → ℕ };
 

@@ -81,7 +81,7 @@ impl Table<Reserve, RESERVES> {
         ensures after { self.new.rows ≡ lower self.old.rows i q }
     {
         if let Some(row) = self.get(i) {
-            self.open(i, row.lowered(q));
+            self.put(usize::from(i), Some(row.lowered(q)));
         }
     }
 
@@ -93,7 +93,7 @@ impl Table<Reserve, RESERVES> {
         let Some(row) = self.get(i) else {
             return q;
         };
-        self.open(i, row.filled(q));
+        self.put(usize::from(i), Some(row.filled(q)));
         q.saturating_sub(row.headroom())
     }
 

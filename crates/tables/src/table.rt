@@ -27,7 +27,7 @@ impl<T: Copy, const N: usize> Table<T, N> {
         self.at(usize::from(i))
     }
 
-    // There is no place past the last.
+    // A number past the last place changes nothing.
     pub fn open(&mut self, i: u8, row: T)
         ensures after { self.new.rows ≡ slice_set self.old.rows i (Some row) }
     {

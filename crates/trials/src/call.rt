@@ -76,11 +76,11 @@ fn answer<S: Store>(store: &mut S, call: Call) -> Came {
 // One store's calls in turn, each with its answer.
 pub fn script<S: Store + Drop>(
     tally: &mut Tally<'_>,
-    name: impl Display + Copy,
+    name: impl Display + Drop,
     new: Result<S, OutOfRange>,
     calls: &[(Call, &str)],
 ) {
-    let Some(mut store) = made(tally, name, new) else {
+    let Some(mut store) = made(tally, format_args!("{name}"), new) else {
         return;
     };
     for (call, expected) in calls {
