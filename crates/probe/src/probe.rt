@@ -56,7 +56,7 @@ impl<S: Store> Probe<S> {
         }
     }
 
-    // A reserve for the radio's task, and a tap from the root to it.
+    // A reserve for the radio's task, and a tap from the root to it: two values, with this story's numbers.
     fn feed_radio(&mut self) -> Result<(), Denial> {
         let radio = NewReserve {
             parent: ROOT,
@@ -76,7 +76,7 @@ impl<S: Store> Probe<S> {
         self.node.tap(ROOT_TASK, feed)
     }
 
-    // Requests a grant for one send, and counts how it went.
+    // Requests a grant for one send, and counts how it went; a match, since each way is counted.
     fn request(&mut self) -> Result<Slip, Denial>
         ensures requested { self.new.tally.requested ≡ plus self.old.tally.requested 31 }
         ensures slip { IfOk result (λ slip. (slip.amount ≡ 31) × IsOut slip self.new.node) }

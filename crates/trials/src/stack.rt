@@ -26,11 +26,5 @@ pub fn made<S>(
     name: impl Display + Drop,
     new: Result<S, OutOfRange>,
 ) -> Option<S> {
-    match new {
-        Ok(store) => Some(store),
-        Err(_) => {
-            tally.hold(name, "made", "refused");
-            None
-        }
-    }
+    new.map_err(|_| tally.hold(name, "made", "refused")).ok()
 }
