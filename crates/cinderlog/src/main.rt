@@ -27,7 +27,8 @@ After the last line come
   the seven totals of the node that stands, and whether they balance
 ";
 
-// A session that can't be made is told in one line, as `filter` tells what ends a script.
+// A session that can't be made is told in one line, as `filter` tells what ends a script: a call for three lines would
+// be no plainer.
 fn main(rt: HostRuntime) -> ExitCode {
     match Session::new(rt.alloc(), rt.stdout()) {
         Ok(mut session) => filter::run(&rt, "cinderlog", HELP, &mut session),
