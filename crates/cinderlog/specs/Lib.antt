@@ -1,1 +1,2 @@
+pub mod Matter
 pub mod Session

@@ -1,4 +1,7 @@
 // What a frame is about, what it asks to be done, and who asks.
+ghost use Rattle.std.specs.Prelude.{◌≡◌};
+ghost use Rattle.cinderlog.specs.Matter.{asker_of};
+
 use frame::Frame;
 use node::{NewReserve, NewTap};
 use std::fmt;
@@ -109,7 +112,9 @@ impl fmt::Display for Done {
 }
 
 // The task that asks, where a frame names one.
-pub fn asker(frame: Frame) -> Option<u8> {
+pub fn asker(frame: Frame) -> Option<u8>
+    ensures result { result ≡ asker_of frame }
+{
     match frame {
         Frame::Open { task, .. }
         | Frame::Close { task, .. }

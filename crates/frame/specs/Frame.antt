@@ -3,7 +3,7 @@
 --     sized fs n f             the frame f, where its fields fs are n bytes
 --     open_of fs, close_of fs, tap_of fs, shut_of fs, grant_of fs, settle_of fs, tick_of fs, audit_of fs      the call of each kind with the fields fs
 --     capacitor_of fs, layered_of fs, bank_of fs      the frame with the fields fs that builds a node over each store
---     frame_of_lem bs          the frame whose bytes are bs
+--     frame_of bs              the frame whose bytes are bs
 --     frame_in line            the frame that a line is, or why it is none
 use Rattle.std.specs.Prelude.{ℕ, ◌+◌, ◌*◌, cond, List, [], ◌∷◌, length, Ok, Err, Result, ◌==◌, slice_index}
 use Rattle.frame.specs.Digits.{line_of}
@@ -65,9 +65,9 @@ layered_of fs = sized fs 10 (Layered (four fs 0) (four fs 4) (two fs 8))
 abbrev pub bank_of : List ℕ → Result Frame FrameFault
 bank_of fs = sized fs 12 (Bank (four fs 0 ∷ four fs 4 ∷ four fs 8 ∷ []))
 
-abbrev pub frame_of_lem : List ℕ → Result Frame FrameFault
-frame_of_lem [] = Err UnknownFrame
-frame_of_lem (k ∷ fs) =
+abbrev pub frame_of : List ℕ → Result Frame FrameFault
+frame_of [] = Err UnknownFrame
+frame_of (k ∷ fs) =
     cond (k == 1) (open_of fs)
     (cond (k == 2) (close_of fs)
     (cond (k == 3) (tap_of fs)
@@ -82,4 +82,4 @@ frame_of_lem (k ∷ fs) =
     (Err UnknownFrame)))))))))))
 
 abbrev pub frame_in : List ℕ → Result Frame FrameFault
-frame_in line = elim (line_of line) [ Ok bs ↦ frame_of_lem bs | Err f ↦ Err f ]
+frame_in line = elim (line_of line) [ Ok bs ↦ frame_of bs | Err f ↦ Err f ]

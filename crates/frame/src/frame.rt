@@ -1,6 +1,6 @@
 // The frames: a first byte that names the kind, then that kind's fields and nothing more.
 ghost use Rattle.std.specs.Prelude.{◌≡◌};
-ghost use Rattle.frame.specs.Frame.{frame_in, frame_of_lem, open_of, close_of, tap_of, shut_of, grant_of, settle_of, tick_of, audit_of, capacitor_of, layered_of, bank_of};
+ghost use Rattle.frame.specs.Frame.{frame_in, frame_of, open_of, close_of, tap_of, shut_of, grant_of, settle_of, tick_of, audit_of, capacitor_of, layered_of, bank_of};
 
 use crate::digits::decode;
 use crate::fault::FrameFault;
@@ -219,7 +219,7 @@ impl Frame {
 
     // The frame of a line's bytes.
     pub fn from_bytes(bytes: &[u8]) -> Result<Frame, FrameFault>
-        ensures result { result ≡ frame_of_lem bytes.now }
+        ensures result { result ≡ frame_of bytes.now }
     {
         match bytes {
             [0x01, fields @ ..] => opening(fields),

@@ -20,7 +20,7 @@ use Rattle.recount.specs.declared.table.Table.{Table}
 use Rattle.recount.specs.declared.denials.Denials.{Denials}
 use Rattle.recount.specs.declared.verdicts.Verdicts.{Verdicts}
 use Rattle.recount.specs.Recount.{Reply, capped, accepted, refused_with, how_many, lacking, row_of, lack_of, lacks, lacks_to, shortage_number, quanta, denied, denied_to, deficit, none, with_one, place, rows_of, Judges, Denies}
-use Rattle.recount.specs.Noting.{accepted_after, refused_after, Keyed, all_after, noted, if_level, if_store, level_after, store_after}
+use Rattle.recount.specs.Noting.{accepted_after, refused_after, Keyed, all_after, noted, rows_after}
 
 pub get_d_replicate : {X : Type 0} (n k : ℕ) (x : X) → get_or (replicate n x) k x ≡ x
 get_d_replicate zero k x = refl
@@ -132,7 +132,7 @@ apart n e = ne_eqb n 17 (λ f. omega (arith, eqb-true n 16 e))
 abbrev row_from : List Row → List Row → ℕ → ℕ → ℕ → Row
 row_from l s n u k = cond (eqb n 16) (get_or l (place u k) none) (cond (eqb n 17) (get_or s (place u k) none) none)
 
-row_by : (by : Shortage) (k : Lack) (l s : List Row) → length l ≡ 65536 → length s ≡ 65536 → Keyed (Some k) → (n t i : ℕ) → i < 256 → row_from (if_level by k l) (if_store by k s) n t i ≡ cond (eqb n (shortage_number by) && (eqb t k.task && eqb i k.reserve)) (with_one (row_from l s n t i) k.deficit) (row_from l s n t i)
+row_by : (by : Shortage) (k : Lack) (l s : List Row) → length l ≡ 65536 → length s ≡ 65536 → Keyed (Some k) → (n t i : ℕ) → i < 256 → row_from (cond (eqb (shortage_number by) 16) (noted l k) l) (cond (eqb (shortage_number by) 17) (noted s k) s) n t i ≡ cond (eqb n (shortage_number by) && (eqb t k.task && eqb i k.reserve)) (with_one (row_from l s n t i) k.deficit) (row_from l s n t i)
 row_by Level k l s ll ls w n t i hi =
     first_changed (eqb n 16) (eqb t k.task && eqb i k.reserve) (λ r. with_one r k.deficit) (get_or l (place t i) none) (get_or (noted l k) (place t i) none) (cond (eqb n 17) (get_or s (place t i) none) none)
     (noted_at l k t i ll w hi)
@@ -140,7 +140,7 @@ row_by Store k l s ll ls w n t i hi =
     second_changed (eqb n 16) (eqb n 17) (eqb t k.task && eqb i k.reserve) (λ r. with_one r k.deficit) (get_or l (place t i) none) (get_or s (place t i) none) (get_or (noted s k) (place t i) none) none (apart n)
     (noted_at s k t i ls w hi)
 
-row_step : (k : Option Lack) (l s : List Row) → length l ≡ 65536 → length s ≡ 65536 → Keyed k → (n t i : ℕ) → i < 256 → row_from (level_after k l) (store_after k s) n t i ≡ cond (lacks_to n t i k) (with_one (row_from l s n t i) (quanta k)) (row_from l s n t i)
+row_step : (k : Option Lack) (l s : List Row) → length l ≡ 65536 → length s ≡ 65536 → Keyed k → (n t i : ℕ) → i < 256 → row_from (rows_after 16 k l) (rows_after 17 k s) n t i ≡ cond (lacks_to n t i k) (with_one (row_from l s n t i) (quanta k)) (row_from l s n t i)
 row_step None l s ll ls w n t i hi = refl
 row_step (Some k) l s ll ls w n t i hi = row_by k.shortage k l s ll ls w n t i hi
 
@@ -149,12 +149,12 @@ all_step None row = refl
 all_step (Some k) row = refl
 
 -- what was denied in some answers is denied in these and one more
-pub denies_more : (xs : List Reply) (a : Reply) (d e : Denials) → Keyed (lack_of a) → e.all ≡ all_after (lack_of a) d.all → rows_of e.level ≡ level_after (lack_of a) (rows_of d.level) → rows_of e.store ≡ store_after (lack_of a) (rows_of d.store) → Denies xs d → Denies (xs ++ a ∷ []) e
+pub denies_more : (xs : List Reply) (a : Reply) (d e : Denials) → Keyed (lack_of a) → e.all ≡ all_after (lack_of a) d.all → rows_of e.level ≡ rows_after 16 (lack_of a) (rows_of d.level) → rows_of e.store ≡ rows_after 17 (lack_of a) (rows_of d.store) → Denies xs d → Denies (xs ++ a ∷ []) e
 denies_more xs a d e w all level store is = record {
   all = all ∙ all_step (lack_of a) d.all ∙ ap (λ r. cond (denied a) (with_one r (deficit a)) r) is.all ∙ sym (row_more denied xs a);
   rows = λ n t i ht hi.
       ap (λ l. row_from l (rows_of e.store) n t i) level
-      ∙ ap (λ s. row_from (level_after (lack_of a) (rows_of d.level)) s n t i) store
+      ∙ ap (λ s. row_from (rows_after 16 (lack_of a) (rows_of d.level)) s n t i) store
       ∙ row_step (lack_of a) (rows_of d.level) (rows_of d.store) (full d.level) (full d.store) w n t i hi
       ∙ ap (λ r. cond (denied_to n t i a) (with_one r (deficit a)) r) (is.rows n t i ht hi)
       ∙ sym (row_more (denied_to n t i) xs a);

@@ -5,15 +5,12 @@
 --     Keyed k                             the task and the reserve of k are bytes
 --     all_after k row                     the denials in all after what k tells to be lacking
 --     noted rows k                        the rows, with one denial more of its task at its reserve, which lacks as much as k
---     if_level s k rows, if_store s k rows        the same where s is the level, or the store
---     level_after k rows, store_after k rows      the rows under 16, and under 17, after what k tells to be lacking
-use Rattle.std.specs.Prelude.{ℕ, ◌+◌, ◌<◌, cond, List, slice_index, slice_index_or, slice_set, Some, None, Option, Ok, Err}
+--     rows_after n k rows                 the rows under n after what k tells to be lacking
+use Rattle.std.specs.Prelude.{ℕ, ◌+◌, ◌<◌, cond, List, ◌==◌, slice_index, slice_index_or, slice_set, Some, None, Option, Ok, Err}
 use Rattle.frame.specs.Fault.{number_of}
 use Rattle.recount.specs.declared.row.Row.{Row}
 use Rattle.recount.specs.declared.lack.Lack.{Lack}
-use Rattle.recount.specs.declared.lack.Shortage.{Shortage}
-use Rattle.recount.specs.declared.lack.Shortage.TheVariants.{Level, Store}
-use Rattle.recount.specs.Recount.{Reply, capped, accepted, none, with_one, place}
+use Rattle.recount.specs.Recount.{Reply, capped, accepted, shortage_number, none, with_one, place}
 
 abbrev pub one_more : List ℕ → ℕ → List ℕ
 one_more ys n = slice_set ys n (capped (slice_index ys n + 1))
@@ -36,18 +33,6 @@ all_after (Some k) row = with_one row k.deficit
 abbrev pub noted : List Row → Lack → List Row
 noted rows k = slice_set rows (place k.task k.reserve) (with_one (slice_index_or rows (place k.task k.reserve) none) k.deficit)
 
-abbrev pub if_level : Shortage → Lack → List Row → List Row
-if_level Level k rows = noted rows k
-if_level Store k rows = rows
-
-abbrev pub if_store : Shortage → Lack → List Row → List Row
-if_store Level k rows = rows
-if_store Store k rows = noted rows k
-
-abbrev pub level_after : Option Lack → List Row → List Row
-level_after None rows = rows
-level_after (Some k) rows = if_level k.shortage k rows
-
-abbrev pub store_after : Option Lack → List Row → List Row
-store_after None rows = rows
-store_after (Some k) rows = if_store k.shortage k rows
+abbrev pub rows_after : ℕ → Option Lack → List Row → List Row
+rows_after n None rows = rows
+rows_after n (Some k) rows = cond (shortage_number k.shortage == n) (noted rows k) rows

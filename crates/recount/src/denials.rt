@@ -1,7 +1,7 @@
 // The denials under 16 and 17.
 ghost use Rattle.std.specs.Prelude.{◌≡◌, [], IfOk, Result};
 ghost use Rattle.recount.specs.Recount.{Denies, lack_of, row_in, rows_of};
-ghost use Rattle.recount.specs.Noting.{Keyed, all_after, level_after, store_after};
+ghost use Rattle.recount.specs.Noting.{Keyed, all_after, rows_after};
 
 use crate::lack::{Lack, Shortage};
 use crate::row::Row;
@@ -35,8 +35,8 @@ impl Denials {
     pub(crate) fn note(&mut self, reply: &Result<Answer, FrameFault>)
         ensures within { Keyed (lack_of reply.now) }
         ensures all { self.new.all ≡ all_after (lack_of reply.now) self.old.all }
-        ensures level { rows_of self.new.level ≡ level_after (lack_of reply.now) (rows_of self.old.level) }
-        ensures store { rows_of self.new.store ≡ store_after (lack_of reply.now) (rows_of self.old.store) }
+        ensures level { rows_of self.new.level ≡ rows_after 16 (lack_of reply.now) (rows_of self.old.level) }
+        ensures store { rows_of self.new.store ≡ rows_after 17 (lack_of reply.now) (rows_of self.old.store) }
     {
         if let Some(lack) = Lack::of(reply) {
             self.all = self.all.add(lack.deficit);
