@@ -1,4 +1,8 @@
 // A program that reads its script from standard input, and writes to standard output.
+ghost use Rattle.std.specs.Prelude.{◌≤◌};
+ghost use Rattle.std.specs.Process.{exit_status};
+ghost use Rattle.filter.specs.Status.{Ends};
+
 use crate::cutting::Cutter;
 use crate::script::Script;
 use std::io::{ErrorKind, Read, Stdin};
@@ -36,7 +40,9 @@ fn take_all<S: Script>(script: &mut S, mut input: Stdin) -> Result<(), Stop> {
 }
 
 // How a program ends, which tells on standard error why the script was not taken to its end; that nobody reads on is no failure.
-fn tell(rt: &HostRuntime, name: &str, res: Result<(), Stop>) -> ExitCode {
+fn tell(rt: &HostRuntime, name: &str, res: Result<(), Stop>) -> ExitCode
+    ensures status { Ends res (exit_status result) }
+{
     match res {
         Ok(()) => ExitCode::SUCCESS,
         Err(Stop::Output(error)) if error.kind() == ErrorKind::BrokenPipe => ExitCode::SUCCESS,
@@ -48,7 +54,9 @@ fn tell(rt: &HostRuntime, name: &str, res: Result<(), Stop>) -> ExitCode {
 }
 
 // Runs a program that takes no argument but `--help`. It fails with one line on standard error, and else writes none there.
-pub fn run<S: Script>(rt: &HostRuntime, name: &str, help: &str, script: &mut S) -> ExitCode {
+pub fn run<S: Script>(rt: &HostRuntime, name: &str, help: &str, script: &mut S) -> ExitCode
+    ensures status { exit_status result ≤ 1 }
+{
     let Ok(mut args) = env::args(rt) else {
         let _ = eprintln!(rt; "{name}: the arguments can't be read");
         return ExitCode::FAILURE;
