@@ -1,19 +1,18 @@
 -- Layers over any store, whose members are G; those of the layer are H. Assumes nothing.
---     AfterTick H l m          the layer m is l after a tick over a store that holds some amount, where l is sound
 --     means G s                the meaning of the store s
 --     layer_stage G H y        the layer's own stage: its kind, with what it leaves of that below
 --     layered_means G H y      the meaning of the whole: that of the store below, with this stage on top
 --     LayeredSound G H y       the store below is sound, and so is the layer
+--     ticked_below G y         the store below after its tick
+--     leak_over G H y          what the layer lets leak of what that then holds
+--     layered_loss G H y       what a tick loses: what the store below loses, and what is drained of it for the leak
+--     layered_after G H x y    y after the change x: all but a tick is passed on, and leaves the layer as it is
 --     layered_store G H        its members as a store
---     Leaked G H y r z         z is y after a tick that answered r
-use Rattle.std.specs.Prelude.{◌≡◌, ℕ, ◌+◌}
+use Rattle.std.specs.Prelude.{ℕ, ◌+◌, min}
 use Rattle.store.specs.declared.store.Store.{Ghosts}
-use Rattle.store.specs.Meaning.{Stage, Meaning, meaning, with_stage, top, Drained, Ticked}
+use Rattle.store.specs.Meaning.{Stage, Meaning, Change, charge, draw, drain, tick, meaning, with_stage, top}
 use Rattle.layers.specs.declared.layer.Layer.{Ghosts as LayerGhosts}
 use Rattle.layers.specs.declared.layered.Layered.{Layered}
-
-abbrev pub AfterTick : {L : Type 0} → LayerGhosts L → L → L → Type 0
-AfterTick H l m = H.sound l → ((held : ℕ) × (m ≡ H.after l held))
 
 module _ {S L : Type 0} (G : Ghosts S) (H : LayerGhosts L) where
   abbrev pub means : S → Meaning
@@ -28,21 +27,29 @@ module _ {S L : Type 0} (G : Ghosts S) (H : LayerGhosts L) where
   abbrev pub LayeredSound : Layered S L → Type 0
   LayeredSound y = G.sound y.below × H.sound y.layer
 
-  -- the store below ticks, and is `between` then; then the leak of what that holds is drained from it; both losses are told as one
-  pub record Leaked (y : Layered S L) (r : ℕ) (z : Layered S L) : Type 0 where
-    pub between : S
-    pub loss : ℕ
-    pub gone : ℕ
-    pub sound : G.sound between
-    pub ticked : Ticked (means y.below) loss (means between)
-    pub drained : Drained (H.leak y.layer (G.held between)) (means between) gone (means z.below)
-    pub told : r ≡ loss + gone
-    pub layer : z.layer ≡ H.after y.layer (G.held between)
+  abbrev pub ticked_below : Layered S L → S
+  ticked_below y = G.after tick y.below
+
+  abbrev pub leak_over : Layered S L → ℕ
+  leak_over y = H.leak y.layer (G.held (ticked_below y))
+
+  -- both losses are told as one
+  abbrev pub layered_loss : Layered S L → ℕ
+  layered_loss y = G.coming_loss y.below + min (leak_over y) (G.held (ticked_below y))
+
+  -- a tick: the store below ticks; then the leak of what that holds is drained from it
+  abbrev pub layered_after : Change → Layered S L → Layered S L
+  layered_after (charge q) y = record { below = G.after (charge q) y.below; layer = y.layer }
+  layered_after (draw q) y = record { below = G.after (draw q) y.below; layer = y.layer }
+  layered_after (drain q) y = record { below = G.after (drain q) y.below; layer = y.layer }
+  layered_after tick y = record { below = G.after (drain (leak_over y)) (ticked_below y); layer = H.after y.layer (G.held (ticked_below y)) }
 
   abbrev pub layered_store : Ghosts (Layered S L)
   layered_store = record {
     held = λ y. (layered_means y).held;
     capacity = λ y. (layered_means y).capacity;
     stages = λ y. (layered_means y).stages;
+    coming_loss = layered_loss;
+    after = layered_after;
     sound = LayeredSound;
   }

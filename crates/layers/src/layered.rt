@@ -1,7 +1,5 @@
 // A layer over a store. The layer adds one stage on top, and passes on all that it does not change.
-ghost use Rattle.std.specs.Prelude.{◌≡◌, OnErr};
-ghost use Rattle.store.specs.Meaning.{Charged, Drawn, Drained, Ticked};
-ghost use Rattle.layers.specs.Layered.{layered_means, LayeredSound, AfterTick, Leaked};
+ghost use Rattle.layers.specs.Layered.{layered_means, layered_loss, layered_after, LayeredSound};
 ghost use Rattle.store.proofs.Stages.{sound_more};
 
 use crate::layer::Layer;
@@ -19,6 +17,10 @@ impl<S: Store, L: Layer> Store for Layered<S, L> {
     ghost capacity = { λ y. (layered_means (S.Store) (L.Layer) y).capacity };
 
     ghost stages = { λ y. (layered_means (S.Store) (L.Layer) y).stages };
+
+    ghost coming_loss = { layered_loss (S.Store) (L.Layer) };
+
+    ghost after = { layered_after (S.Store) (L.Layer) };
 
     ghost sound = { LayeredSound (S.Store) (L.Layer) };
 
@@ -42,21 +44,12 @@ impl<S: Store, L: Layer> Store for Layered<S, L> {
         self.below.height().saturating_add(1)
     }
 
-    fn charge(&mut self, q: u32) -> u32
-        ensures sound { LayeredSound (S.Store) (L.Layer) self.old → LayeredSound (S.Store) (L.Layer) self.new }
-        ensures charged { LayeredSound (S.Store) (L.Layer) self.old → Charged q (layered_means (S.Store) (L.Layer) self.old) result (layered_means (S.Store) (L.Layer) self.new) }
-        ensures layer { self.new.layer ≡ self.old.layer }
-    {
+    fn charge(&mut self, q: u32) -> u32 {
         self.below.charge(q)
     }
 
     // The layer's own fault is told only where every stage below could give.
-    fn draw(&mut self, q: u32) -> Result<(), Fault>
-        ensures sound { LayeredSound (S.Store) (L.Layer) self.old → LayeredSound (S.Store) (L.Layer) self.new }
-        ensures drawn { LayeredSound (S.Store) (L.Layer) self.old → Drawn q (layered_means (S.Store) (L.Layer) self.old) result (layered_means (S.Store) (L.Layer) self.new) }
-        ensures same { OnErr result (self.new ≡ self.old) }
-        ensures layer { self.new.layer ≡ self.old.layer }
-    {
+    fn draw(&mut self, q: u32) -> Result<(), Fault> {
         let below = self.below.available();
         let available = self.layer.leaves(below);
         if available < q && q <= below {
@@ -69,21 +62,12 @@ impl<S: Store, L: Layer> Store for Layered<S, L> {
         self.below.draw(q)
     }
 
-    fn drain(&mut self, q: u32) -> u32
-        ensures sound { LayeredSound (S.Store) (L.Layer) self.old → LayeredSound (S.Store) (L.Layer) self.new }
-        ensures drained { LayeredSound (S.Store) (L.Layer) self.old → Drained q (layered_means (S.Store) (L.Layer) self.old) result (layered_means (S.Store) (L.Layer) self.new) }
-        ensures layer { self.new.layer ≡ self.old.layer }
-    {
+    fn drain(&mut self, q: u32) -> u32 {
         self.below.drain(q)
     }
 
     // The leak is drained, not drawn, so that no floor below stops it.
-    fn tick(&mut self) -> u32
-        ensures sound { LayeredSound (S.Store) (L.Layer) self.old → LayeredSound (S.Store) (L.Layer) self.new }
-        ensures ticked { LayeredSound (S.Store) (L.Layer) self.old → Ticked (layered_means (S.Store) (L.Layer) self.old) result (layered_means (S.Store) (L.Layer) self.new) }
-        ensures layer { AfterTick (L.Layer) self.old.layer self.new.layer }
-        ensures leaked { LayeredSound (S.Store) (L.Layer) self.old → Leaked (S.Store) (L.Layer) self.old result self.new }
-    {
+    fn tick(&mut self) -> u32 {
         let loss = self.below.tick();
         let leak = self.layer.leak(self.below.held());
         let gone = self.below.drain(leak);

@@ -9,6 +9,7 @@
 --     new_bank cs          what is made of the capacities cs: an empty bank, where they fit
 --     bank_means b         a bank's meaning: one stage, of kind F, with all that the cells hold
 --     BankSound b          each cell holds no more than its capacity, and the capacities are at most G together
+--     bank_after x b       the bank b after the change x: a tick loses nothing
 --     bank_store           its members as a store
 use Rattle.std.specs.Prelude.{ℕ, ◌-◌, ◌≤◌, Bool, cond, ◌&&◌, List, [], ◌∷◌, map, length, Ok, Err, sum, Result, nat_le}
 use Rattle.std.specs.List.{sum_by, AllByRecursion}
@@ -17,7 +18,7 @@ use Rattle.rates.specs.declared.amount.OutOfRange.{OutOfRange}
 use Rattle.store.specs.declared.bank.Bank.{Bank}
 use Rattle.store.specs.declared.cell.Cell.{Cell}
 use Rattle.store.specs.declared.store.Store.{Ghosts}
-use Rattle.store.specs.Meaning.{Meaning}
+use Rattle.store.specs.Meaning.{Meaning, Change, charge, draw, drain, tick}
 use Rattle.store.specs.Cell.{cell, room, CellSound, filled as filled_cell, emptied as emptied_cell}
 
 abbrev pub held_in : List Cell → ℕ
@@ -58,10 +59,18 @@ bank_means b = record {
 abbrev pub BankSound : Bank → Type 0
 BankSound b = AllByRecursion CellSound b.cells.items × (capacity_of b.cells.items ≤ bound)
 
+abbrev pub bank_after : Change → Bank → Bank
+bank_after (charge q) b = with_cells (filled q b.cells.items)
+bank_after (draw q) b = with_cells (emptied q b.cells.items)
+bank_after (drain q) b = with_cells (emptied q b.cells.items)
+bank_after tick b = b
+
 abbrev pub bank_store : Ghosts Bank
 bank_store = record {
   held = λ b. (bank_means b).held;
   capacity = λ b. (bank_means b).capacity;
   stages = λ b. (bank_means b).stages;
+  coming_loss = λ b. 0;
+  after = bank_after;
   sound = BankSound;
 }

@@ -2,15 +2,16 @@
 --     new_capacitor c      what is made of the capacity c: an empty capacitor, where c is at most G
 --     capacitor_means c    its meaning: one stage, of kind C, with all that is held
 --     CapacitorSound c     no more is held than the capacity, which is at most G
---     capacitor_store      its members as a store
 --     filled q c           the capacitor c with q more, as far as it has room
 --     emptied q c          the capacitor c with q less, as far as it holds that
+--     capacitor_after x c  the capacitor c after the change x: a tick loses nothing
+--     capacitor_store      its members as a store
 use Rattle.std.specs.Prelude.{ℕ, ◌≤◌, cond, [], ◌∷◌, Ok, Err, Result, nat_le}
 use Rattle.rates.specs.Amount.{bound}
 use Rattle.rates.specs.declared.amount.OutOfRange.{OutOfRange}
 use Rattle.store.specs.declared.capacitor.Capacitor.{Capacitor}
 use Rattle.store.specs.declared.store.Store.{Ghosts}
-use Rattle.store.specs.Meaning.{Meaning}
+use Rattle.store.specs.Meaning.{Meaning, Change, charge, draw, drain, tick}
 use Rattle.store.specs.Cell.{cell, CellSound, filled as filled_cell, emptied as emptied_cell}
 
 abbrev pub new_capacitor : ℕ → Result Capacitor OutOfRange
@@ -26,16 +27,24 @@ capacitor_means c = record {
 abbrev pub CapacitorSound : Capacitor → Type 0
 CapacitorSound c = CellSound c.cell × (c.cell.capacity ≤ bound)
 
-abbrev pub capacitor_store : Ghosts Capacitor
-capacitor_store = record {
-  held = λ c. (capacitor_means c).held;
-  capacity = λ c. (capacitor_means c).capacity;
-  stages = λ c. (capacitor_means c).stages;
-  sound = CapacitorSound;
-}
-
 abbrev pub filled : ℕ → Capacitor → Capacitor
 filled q c = record { cell = filled_cell q c.cell }
 
 abbrev pub emptied : ℕ → Capacitor → Capacitor
 emptied q c = record { cell = emptied_cell q c.cell }
+
+abbrev pub capacitor_after : Change → Capacitor → Capacitor
+capacitor_after (charge q) c = filled q c
+capacitor_after (draw q) c = emptied q c
+capacitor_after (drain q) c = emptied q c
+capacitor_after tick c = c
+
+abbrev pub capacitor_store : Ghosts Capacitor
+capacitor_store = record {
+  held = λ c. (capacitor_means c).held;
+  capacity = λ c. (capacitor_means c).capacity;
+  stages = λ c. (capacitor_means c).stages;
+  coming_loss = λ c. 0;
+  after = capacitor_after;
+  sound = CapacitorSound;
+}

@@ -8,6 +8,7 @@
 --     with_stage s m           m with the stage s on top, as a layer adds it
 --     lower q s, lowered q ss  the available amount less q, of one stage and of every stage
 --     fault_from n q ss        the fault of a draw of q, over stages counted from the height n
+--     Change                   what is done to a store: a charge, a draw, a drain or a tick
 --     SameMake m n             capacity and kinds are the same
 --     Charged q m r n          n is m after a charge of q that answered r
 --     Drawn q m r n            n is m after a draw of q that answered r
@@ -25,6 +26,13 @@ pub record Meaning : Type 0 where
   pub held : ℕ
   pub capacity : ℕ
   pub stages : List Stage
+
+-- what is done to a store
+pub data Change : Type 0 where
+  charge : (q : ℕ) → Change
+  draw : (q : ℕ) → Change
+  drain : (q : ℕ) → Change
+  tick : Change
 
 abbrev pub meaning : {S : Type 0} → (S → ℕ) → (S → ℕ) → (S → List Stage) → S → Meaning
 meaning held capacity stages s = record { held = held s; capacity = capacity s; stages = stages s }

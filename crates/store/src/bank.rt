@@ -1,7 +1,6 @@
 // A bank of 1 to 8 cells: filled from cell 0 up, emptied from the last cell down.
-ghost use Rattle.std.specs.Prelude.{◌≡◌, IfOk, OnErr, OnOk};
-ghost use Rattle.store.specs.Meaning.{Charged, Drawn, Drained, Ticked};
-ghost use Rattle.store.specs.Bank.{new_bank, filled, emptied, with_cells, bank_means, BankSound};
+ghost use Rattle.std.specs.Prelude.{◌≡◌, IfOk};
+ghost use Rattle.store.specs.Bank.{new_bank, bank_means, BankSound, bank_after};
 ghost use Rattle.store.specs.Laws.{bank_laws};
 
 use crate::cell::Cell;
@@ -53,6 +52,10 @@ impl Store for Bank {
 
     ghost stages = { λ b. (bank_means b).stages };
 
+    ghost coming_loss = { λ b. 0 };
+
+    ghost after = { bank_after };
+
     ghost sound = { BankSound };
 
     const KIND: u8 = b'F';
@@ -79,11 +82,7 @@ impl Store for Bank {
         0
     }
 
-    fn charge(&mut self, q: u32) -> u32
-        ensures sound { BankSound self.old → BankSound self.new }
-        ensures charged { BankSound self.old → Charged q (bank_means self.old) result (bank_means self.new) }
-        ensures after { self.new ≡ with_cells (filled q self.old.cells.items) }
-    {
+    fn charge(&mut self, q: u32) -> u32 {
         let mut left = q;
         for cell in self.cells.iter_mut() {
             left -= cell.charge(left);
@@ -91,12 +90,7 @@ impl Store for Bank {
         q - left
     }
 
-    fn draw(&mut self, q: u32) -> Result<(), Fault>
-        ensures sound { BankSound self.old → BankSound self.new }
-        ensures drawn { BankSound self.old → Drawn q (bank_means self.old) result (bank_means self.new) }
-        ensures same { OnErr result (self.new ≡ self.old) }
-        ensures after { OnOk result (self.new ≡ with_cells (emptied q self.old.cells.items)) }
-    {
+    fn draw(&mut self, q: u32) -> Result<(), Fault> {
         let held = self.held();
         if q > held {
             return Err(Fault {
@@ -109,11 +103,7 @@ impl Store for Bank {
         Ok(())
     }
 
-    fn drain(&mut self, q: u32) -> u32
-        ensures sound { BankSound self.old → BankSound self.new }
-        ensures drained { BankSound self.old → Drained q (bank_means self.old) result (bank_means self.new) }
-        ensures after { self.new ≡ with_cells (emptied q self.old.cells.items) }
-    {
+    fn drain(&mut self, q: u32) -> u32 {
         let mut left = q;
         // By place: what `iter_mut().rev()` leaves behind is not told by its contract.
         let cells = self.cells.as_mut_slice();
@@ -123,12 +113,7 @@ impl Store for Bank {
         q - left
     }
 
-    fn tick(&mut self) -> u32
-        ensures sound { BankSound self.old → BankSound self.new }
-        ensures ticked { BankSound self.old → Ticked (bank_means self.old) result (bank_means self.new) }
-        ensures result { result ≡ 0 }
-        ensures same { self.new ≡ self.old }
-    {
+    fn tick(&mut self) -> u32 {
         0
     }
 }

@@ -1,7 +1,6 @@
 // A capacitor: one stage, all that it holds is available, and a tick loses nothing.
-ghost use Rattle.std.specs.Prelude.{◌≡◌, IfOk, OnErr, OnOk};
-ghost use Rattle.store.specs.Meaning.{Charged, Drawn, Drained, Ticked};
-ghost use Rattle.store.specs.Capacitor.{new_capacitor, capacitor_means, CapacitorSound, filled, emptied};
+ghost use Rattle.std.specs.Prelude.{◌≡◌, IfOk};
+ghost use Rattle.store.specs.Capacitor.{new_capacitor, capacitor_means, CapacitorSound, capacitor_after};
 ghost use Rattle.store.specs.Laws.{capacitor_laws};
 
 use crate::cell::Cell;
@@ -36,6 +35,10 @@ impl Store for Capacitor {
 
     ghost stages = { λ c. (capacitor_means c).stages };
 
+    ghost coming_loss = { λ c. 0 };
+
+    ghost after = { capacitor_after };
+
     ghost sound = { CapacitorSound };
 
     const KIND: u8 = b'C';
@@ -58,20 +61,11 @@ impl Store for Capacitor {
         0
     }
 
-    fn charge(&mut self, q: u32) -> u32
-        ensures sound { CapacitorSound self.old → CapacitorSound self.new }
-        ensures charged { CapacitorSound self.old → Charged q (capacitor_means self.old) result (capacitor_means self.new) }
-        ensures after { self.new ≡ filled q self.old }
-    {
+    fn charge(&mut self, q: u32) -> u32 {
         self.cell.charge(q)
     }
 
-    fn draw(&mut self, q: u32) -> Result<(), Fault>
-        ensures sound { CapacitorSound self.old → CapacitorSound self.new }
-        ensures drawn { CapacitorSound self.old → Drawn q (capacitor_means self.old) result (capacitor_means self.new) }
-        ensures same { OnErr result (self.new ≡ self.old) }
-        ensures after { OnOk result (self.new ≡ emptied q self.old) }
-    {
+    fn draw(&mut self, q: u32) -> Result<(), Fault> {
         self.cell.draw(q).map_err(|deficit| Fault {
             height: 0,
             kind: Self::KIND,
@@ -79,20 +73,11 @@ impl Store for Capacitor {
         })
     }
 
-    fn drain(&mut self, q: u32) -> u32
-        ensures sound { CapacitorSound self.old → CapacitorSound self.new }
-        ensures drained { CapacitorSound self.old → Drained q (capacitor_means self.old) result (capacitor_means self.new) }
-        ensures after { self.new ≡ emptied q self.old }
-    {
+    fn drain(&mut self, q: u32) -> u32 {
         self.cell.drain(q)
     }
 
-    fn tick(&mut self) -> u32
-        ensures sound { CapacitorSound self.old → CapacitorSound self.new }
-        ensures ticked { CapacitorSound self.old → Ticked (capacitor_means self.old) result (capacitor_means self.new) }
-        ensures result { result ≡ 0 }
-        ensures same { self.new ≡ self.old }
-    {
+    fn tick(&mut self) -> u32 {
         0
     }
 }

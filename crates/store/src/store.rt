@@ -1,6 +1,6 @@
 // A store of energy, by what it holds, what it can hold, and its stages from the bottom up.
-ghost use Rattle.std.specs.Prelude.{◌≡◌, ℕ, List, OnErr};
-ghost use Rattle.store.specs.Meaning.{Stage, meaning, Sound, Charged, Drawn, Drained, Ticked, top, height_of};
+ghost use Rattle.std.specs.Prelude.{◌≡◌, ℕ, List, OnErr, OnOk};
+ghost use Rattle.store.specs.Meaning.{Stage, Change, charge, draw, drain, tick, meaning, Sound, Charged, Drawn, Drained, Ticked, top, height_of};
 
 use crate::fault::Fault;
 
@@ -11,6 +11,12 @@ pub trait Store {
     ghost capacity: { Self → ℕ };
 
     ghost stages: { Self → List Stage };
+
+    // What the next tick will lose.
+    ghost coming_loss: { Self → ℕ };
+
+    // The value after each change; after a draw, where it is accepted.
+    ghost after: { Change → Self → Self };
 
     // The value is well made; every call keeps it so. It is no invariant: a layer over any store knows only what that
     // store promises.
@@ -36,23 +42,28 @@ pub trait Store {
     // Takes in up to q, and answers how much.
     fn charge(&mut self, q: u32) -> u32
         ensures sound { sound self.old → sound self.new }
-        ensures charged { sound self.old → Charged q (meaning held capacity stages self.old) result (meaning held capacity stages self.new) };
+        ensures charged { sound self.old → Charged q (meaning held capacity stages self.old) result (meaning held capacity stages self.new) }
+        ensures after { sound self.old → self.new ≡ after (charge q) self.old };
 
     // Gives out just q, or nothing.
     fn draw(&mut self, q: u32) -> Result<(), Fault>
         ensures sound { sound self.old → sound self.new }
         ensures drawn { sound self.old → Drawn q (meaning held capacity stages self.old) result (meaning held capacity stages self.new) }
-        ensures same { OnErr result (self.new ≡ self.old) };
+        ensures same { OnErr result (self.new ≡ self.old) }
+        ensures after { sound self.old → OnOk result (self.new ≡ after (draw q) self.old) };
 
     // Lets go of up to q, whatever is available, and answers how much.
     fn drain(&mut self, q: u32) -> u32
         ensures sound { sound self.old → sound self.new }
-        ensures drained { sound self.old → Drained q (meaning held capacity stages self.old) result (meaning held capacity stages self.new) };
+        ensures drained { sound self.old → Drained q (meaning held capacity stages self.old) result (meaning held capacity stages self.new) }
+        ensures after { sound self.old → self.new ≡ after (drain q) self.old };
 
     // One tick passes; answers what it lost.
     fn tick(&mut self) -> u32
         ensures sound { sound self.old → sound self.new }
-        ensures ticked { sound self.old → Ticked (meaning held capacity stages self.old) result (meaning held capacity stages self.new) };
+        ensures ticked { sound self.old → Ticked (meaning held capacity stages self.old) result (meaning held capacity stages self.new) }
+        ensures loss { sound self.old → result ≡ coming_loss self.old }
+        ensures after { sound self.old → self.new ≡ after tick self.old };
 
     ghost means: { (s : Self) → sound s → Sound (meaning held capacity stages s) };
 }
