@@ -4,15 +4,16 @@
 --     Marked p serial n m    m is n with the grant of this serial parked (p true) or out (p false)
 --     state G n              its state: the store's meaning, where it stands, and its books
 --     SoundNode G n          its store is sound, and its state is whole
+--     Stored G s e s'        s' is what the event e makes of the store s
 --     Extends G n e m        from a sound node n, the event e leads to m, which is sound
 --     Newborn G s n          n is a new node over the store s
 --     DrawnFor G t i q s r s'       s' is the store s after a draw of q for task t from reserve i that answered r
 --     refusal_of r           why a call was refused, if it was
 --     opening, closing, tapping, shutting, granting, settling, parking, recalling, ticking
 --                            the event of each call, by its arguments and its answer
-use Rattle.std.specs.Prelude.{◌≡◌, ℕ, Bool, true, List, length, take, Some, None, Ok, Err, Option, Result}
+use Rattle.std.specs.Prelude.{◌≡◌, ℕ, ◌-◌, Bool, true, List, length, take, Some, None, Ok, Err, Option, Result}
 use Rattle.store.specs.declared.store.Store.{Ghosts}
-use Rattle.store.specs.Meaning.{Meaning, meaning, Drawn}
+use Rattle.store.specs.Meaning.{Meaning, charge, draw, tick as store_tick, meaning, Drawn}
 use Rattle.tables.specs.Grants.{open_in, fits_out, marked}
 use Rattle.tables.specs.Books.{first_books}
 use Rattle.node.specs.declared.denial.Denial.{Denial}
@@ -21,7 +22,7 @@ use Rattle.node.specs.declared.slip.Slip.{Slip}
 use Rattle.node.specs.declared.node.Node.{Node}
 use Rattle.node.specs.Standing.{Standing, born}
 use Rattle.node.specs.Calls.{Event, open_reserve, close_reserve, open_tap, shut_tap, request, settle, park, recall, tick}
-use Rattle.node.specs.Calls.{refused, opened, closed, tapped, shut, granted, settled, parked, recalled, ticked}
+use Rattle.node.specs.Calls.{refused, opened, closed, tapped, shut, granted, settled, parked, recalled, ticked, audited}
 use Rattle.node.specs.Steps.{State, Step}
 use Rattle.node.specs.Sound.{Whole}
 
@@ -53,8 +54,23 @@ module _ {S : Type 0} (G : Ghosts S) where
     pub store : G.sound n.store
     pub whole : Whole (state n)
 
+  -- a grant draws its amount, and a settlement charges what was not used; a tick ticks the store, tells the loss that was
+  -- coming, and then charges the harvest; no other call touches the store
+  abbrev pub Stored : S → Event → S → Type 0
+  Stored s (refused call why) s' = s' ≡ s
+  Stored s (opened task parent number owner limit amount) s' = s' ≡ s
+  Stored s (closed task number) s' = s' ≡ s
+  Stored s (tapped task tap source sink n d) s' = s' ≡ s
+  Stored s (shut task tap) s' = s' ≡ s
+  Stored s (granted task reserve amount serial) s' = s' ≡ G.after (draw amount) s
+  Stored s (settled serial amount used lost) s' = s' ≡ G.after (charge (amount - used)) s
+  Stored s (parked serial amount) s' = s' ≡ s
+  Stored s (recalled task serial amount) s' = s' ≡ s
+  Stored s (ticked harvest loss intake figures) s' = (loss ≡ G.coming_loss s) × (s' ≡ G.after (charge harvest) (G.after store_tick s))
+  Stored s (audited t) s' = s' ≡ s
+
   abbrev pub Extends : Node S → Event → Node S → Type 0
-  Extends n e m = SoundNode n → SoundNode m × Step (state n) e (state m)
+  Extends n e m = SoundNode n → SoundNode m × Step (state n) e (state m) × Stored n.store e m.store
 
   -- only the root is open, whose level is what the store holds
   pub record Newborn (over : S) (n : Node S) : Type 0 where
@@ -65,7 +81,7 @@ module _ {S : Type 0} (G : Ghosts S) where
 
   -- a fault is told with the task and the reserve that met it
   abbrev pub DrawnFor : ℕ → ℕ → ℕ → S → Result (Unit {0}) Overdraw → S → Type 0
-  DrawnFor task reserve q s (Ok u) s' = (G.sound s → G.sound s' × Drawn q (meaning G.held G.capacity G.stages s) (Ok u) (meaning G.held G.capacity G.stages s'))
+  DrawnFor task reserve q s (Ok u) s' = (G.sound s → G.sound s' × Drawn q (meaning G.held G.capacity G.stages s) (Ok u) (meaning G.held G.capacity G.stages s') × (s' ≡ G.after (draw q) s))
   DrawnFor task reserve q s (Err o) s' =
       (o.task ≡ task) × (o.reserve ≡ reserve) × (G.sound s → Drawn q (meaning G.held G.capacity G.stages s) (Err o.fault) (meaning G.held G.capacity G.stages s'))
 

@@ -12,6 +12,7 @@ returns-clause-step g c s =
     (grant_step (store_means g.S.Store c.args.self.now) (standing_of c.args.self.now) c.args.task c.args.reserve c.args.amount c.args.self.now.books _ _ _ _ c.add-serial.result _
     (g.met.S.Store.means c.args.self.now.store s.store) s.whole (sym c.in_ok-may_request.ensures.judged) drawn.1
     c.lower.ensures.after c.add-serial.ensures.result c.add-serial.ensures.after c.add-serial.ensures.serials c.grant.ensures.after)
+    drawn.2
 
 pub returns-clause-slip : goal.returns-clause-slip
 returns-clause-slip g c = (refl, granted_out (standing_of c.args.self.now) c.args.task c.args.reserve c.args.amount c.add-serial.result _ (sym c.in_ok-may_request.ensures.judged) c.add-serial.ensures.after)

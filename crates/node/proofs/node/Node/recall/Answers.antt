@@ -26,6 +26,7 @@ returns-clause-step g c s = goes g.S.Store g.met.S.Store.means c.args.self.now _
       standing = let after = c.mark.ensures.after in let serials = c.mark.ensures.serials in cc;
       books = refl;
     })
+    refl
 
 pub returns-clause-judged : goal.returns-clause-judged
 returns-clause-judged g c m = sym (c.in_ok-grant.ensures.judged m)

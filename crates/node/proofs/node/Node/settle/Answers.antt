@@ -12,3 +12,4 @@ returns-clause-step g c s =
     (settle_step (store_means g.S.Store c.args.self.now) _ (standing_of c.args.self.now) c.args.self.now.books _ c.args.slip.serial c.args.slip.amount c.args.used
     c.charge-taken.result c.saturating_sub-lost.result c.in-Some.grant _ _ _ (g.met.S.Store.means _ ok) s.whole out.0 out.1 c.if-slip-used.false
     (c.charge-taken.ensures.charged s.store) c.saturating_sub-lost.ensures c.fill_up.ensures.after c.remove.ensures.after c.remove.ensures.serials c.settle.ensures.after)
+    (c.charge-taken.ensures.after s.store)

@@ -1,6 +1,6 @@
 use Rattle.std.proofs.Common.{◌≡◌, ◌<◌, length, take, sym, ap, ◌∙◌, subst, arith}
 use Rattle.std.proofs.lemmas.List.{drop-set-lt}
-use Rattle.store.specs.Meaning.{meaning, Charged}
+use Rattle.store.specs.Meaning.{charge, meaning, Charged}
 use Rattle.tables.specs.Reserves.{fill}
 use Rattle.tables.specs.Grants.{open_in}
 use Rattle.tables.specs.Books.{count_tick}
@@ -42,3 +42,4 @@ returns-clause-step g c s =
     (c.fill.ensures.after ∙ ap (λ rs. fill rs 0 c.charge-intake.result) c.charge_loss.ensures.after) last inv.5
     (ap open_in inv.1) (ap (λ t. t.serials) inv.1) inv.3
     (c.tick.ensures.after ∙ ap (count_tick c.args.harvest c.tick-loss.result c.charge-intake.result) inv.2))
+    (c.tick-loss.ensures.loss s.store, inv.0 ∙ c.charge-intake.ensures.after between ∙ ap (g.S.Store.after (charge c.args.harvest)) (c.tick-loss.ensures.after s.store))
