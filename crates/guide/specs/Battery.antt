@@ -4,12 +4,13 @@
 --     BatterySound b       no more is held than the capacity, which is at most G
 --     filled q b           the battery b with q more, as far as it has room
 --     emptied q b          the battery b with q less, as far as it holds that
+--     battery_after x b    the battery b after the change x: a tick loses 1 quantum
 --     battery_store        its members as a store
-use Rattle.std.specs.Prelude.{ℕ, ◌≤◌, cond, [], ◌∷◌, Ok, Err, Result, nat_le}
+use Rattle.std.specs.Prelude.{ℕ, ◌≤◌, min, cond, [], ◌∷◌, Ok, Err, Result, nat_le}
 use Rattle.rates.specs.Amount.{bound}
 use Rattle.rates.specs.declared.amount.OutOfRange.{OutOfRange}
 use Rattle.store.specs.declared.store.Store.{Ghosts}
-use Rattle.store.specs.Meaning.{Meaning}
+use Rattle.store.specs.Meaning.{Meaning, Change, charge, draw, drain, tick}
 use Rattle.store.specs.Cell.{cell, CellSound, filled as filled_cell, emptied as emptied_cell}
 use Rattle.guide.specs.declared.battery.Battery.{Battery}
 
@@ -32,10 +33,18 @@ filled q b = record { cell = filled_cell q b.cell }
 abbrev pub emptied : ℕ → Battery → Battery
 emptied q b = record { cell = emptied_cell q b.cell }
 
+abbrev pub battery_after : Change → Battery → Battery
+battery_after (charge q) b = filled q b
+battery_after (draw q) b = emptied q b
+battery_after (drain q) b = emptied q b
+battery_after tick b = emptied 1 b
+
 abbrev pub battery_store : Ghosts Battery
 battery_store = record {
   held = λ b. (battery_means b).held;
   capacity = λ b. (battery_means b).capacity;
   stages = λ b. (battery_means b).stages;
+  coming_loss = λ b. min 1 b.cell.held;
+  after = battery_after;
   sound = BatterySound;
 }

@@ -1,7 +1,6 @@
 // A battery: it comes full, all that it holds is available, and a tick loses 1 quantum of it.
-ghost use Rattle.std.specs.Prelude.{◌≡◌, IfOk, OnErr, OnOk};
-ghost use Rattle.store.specs.Meaning.{Charged, Drawn, Drained, Ticked};
-ghost use Rattle.guide.specs.Battery.{new_battery, battery_means, BatterySound, filled, emptied};
+ghost use Rattle.std.specs.Prelude.{◌≡◌, IfOk};
+ghost use Rattle.guide.specs.Battery.{new_battery, battery_means, battery_after, BatterySound, battery_store};
 ghost use Rattle.guide.specs.Laws.{battery_laws};
 
 use rates::{G, OutOfRange};
@@ -38,6 +37,10 @@ impl Store for Battery {
 
     ghost stages = { λ b. (battery_means b).stages };
 
+    ghost coming_loss = { battery_store.coming_loss };
+
+    ghost after = { battery_after };
+
     ghost sound = { BatterySound };
 
     const KIND: u8 = b'B';
@@ -60,20 +63,11 @@ impl Store for Battery {
         0
     }
 
-    fn charge(&mut self, q: u32) -> u32
-        ensures sound { BatterySound self.old → BatterySound self.new }
-        ensures charged { BatterySound self.old → Charged q (battery_means self.old) result (battery_means self.new) }
-        ensures after { self.new ≡ filled q self.old }
-    {
+    fn charge(&mut self, q: u32) -> u32 {
         self.cell.charge(q)
     }
 
-    fn draw(&mut self, q: u32) -> Result<(), Fault>
-        ensures sound { BatterySound self.old → BatterySound self.new }
-        ensures drawn { BatterySound self.old → Drawn q (battery_means self.old) result (battery_means self.new) }
-        ensures same { OnErr result (self.new ≡ self.old) }
-        ensures after { OnOk result (self.new ≡ emptied q self.old) }
-    {
+    fn draw(&mut self, q: u32) -> Result<(), Fault> {
         self.cell.draw(q).map_err(|deficit| Fault {
             height: 0,
             kind: Self::KIND,
@@ -81,19 +75,11 @@ impl Store for Battery {
         })
     }
 
-    fn drain(&mut self, q: u32) -> u32
-        ensures sound { BatterySound self.old → BatterySound self.new }
-        ensures drained { BatterySound self.old → Drained q (battery_means self.old) result (battery_means self.new) }
-        ensures after { self.new ≡ emptied q self.old }
-    {
+    fn drain(&mut self, q: u32) -> u32 {
         self.cell.drain(q)
     }
 
-    fn tick(&mut self) -> u32
-        ensures sound { BatterySound self.old → BatterySound self.new }
-        ensures ticked { BatterySound self.old → Ticked (battery_means self.old) result (battery_means self.new) }
-        ensures after { self.new ≡ emptied 1 self.old }
-    {
+    fn tick(&mut self) -> u32 {
         self.drain(SELF_DISCHARGE)
     }
 }

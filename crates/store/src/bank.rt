@@ -1,6 +1,6 @@
 // A bank of 1 to 8 cells: filled from cell 0 up, emptied from the last cell down.
 ghost use Rattle.std.specs.Prelude.{◌≡◌, IfOk};
-ghost use Rattle.store.specs.Bank.{new_bank, bank_means, BankSound, bank_after};
+ghost use Rattle.store.specs.Bank.{new_bank, bank_means, BankSound, bank_after, bank_store};
 ghost use Rattle.store.specs.Laws.{bank_laws};
 
 use crate::cell::Cell;
@@ -52,7 +52,7 @@ impl Store for Bank {
 
     ghost stages = { λ b. (bank_means b).stages };
 
-    ghost coming_loss = { λ b. 0 };
+    ghost coming_loss = { bank_store.coming_loss };
 
     ghost after = { bank_after };
 

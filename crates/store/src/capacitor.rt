@@ -1,6 +1,6 @@
 // A capacitor: one stage, all that it holds is available, and a tick loses nothing.
 ghost use Rattle.std.specs.Prelude.{◌≡◌, IfOk};
-ghost use Rattle.store.specs.Capacitor.{new_capacitor, capacitor_means, CapacitorSound, capacitor_after};
+ghost use Rattle.store.specs.Capacitor.{new_capacitor, capacitor_means, CapacitorSound, capacitor_after, capacitor_store};
 ghost use Rattle.store.specs.Laws.{capacitor_laws};
 
 use crate::cell::Cell;
@@ -35,7 +35,7 @@ impl Store for Capacitor {
 
     ghost stages = { λ c. (capacitor_means c).stages };
 
-    ghost coming_loss = { λ c. 0 };
+    ghost coming_loss = { capacitor_store.coming_loss };
 
     ghost after = { capacitor_after };
 
