@@ -1,6 +1,7 @@
 -- Laws of the reserves.
-use Rattle.std.proofs.Common.{◌≡◌, ℕ, zero, suc, ◌-◌, ◌<◌, min, refl, ap, arith}
-use Rattle.tables.specs.Reserves.{ReserveRows, level_at, lower, down_from, charge_in_turn, charge_loss}
+use Rattle.std.proofs.Common.{◌≡◌, ℕ, zero, suc, ◌-◌, ◌<◌, min, [], ◌∷◌, Some, None, Option, refl, ap, ◌∙◌, arith}
+use Rattle.tables.specs.declared.reserves.Reserve.{Reserve}
+use Rattle.tables.specs.Reserves.{ReserveRows, level_in, level_at, relevel, lower, down_from, charge_in_turn, charge_loss}
 
 -- a loss taken from the reserves n down to 1
 unfoldable pub charge_down : ℕ → ℕ → ReserveRows → ReserveRows
@@ -15,6 +16,26 @@ pub charge_down_none : (n q : ℕ) (rs : ReserveRows) → n ≡ 0 → charge_dow
 unfolding charge_down
 charge_down_none zero q rs h = refl
 charge_down_none (suc n) q rs h = absurd (omega arith)
+
+level_same : (o : Option Reserve) → relevel (level_in o) o ≡ o
+level_same None = refl
+level_same (Some x) = refl
+
+-- nothing is left to take
+pub lower_none : (rs : ReserveRows) (i : ℕ) → lower rs i 0 ≡ rs
+lower_none [] i = refl
+lower_none (r ∷ rs) zero = ap (λ o. o ∷ rs) (ap (λ v. relevel v r) (let e : level_in r - 0 ≡ level_in r = omega arith in e) ∙ level_same r)
+lower_none (r ∷ rs) (suc i) = ap (λ xs. r ∷ xs) (lower_none rs i)
+
+pub charge_down_nothing : (n q : ℕ) (rs : ReserveRows) → q ≡ 0 → charge_down n q rs ≡ rs
+unfolding charge_down
+charge_down_nothing zero q rs e = refl
+charge_down_nothing (suc n) q rs e =
+    let left : q - level_at rs (suc n) ≡ 0 = omega (arith, e) in
+    let taken : min q (level_at rs (suc n)) ≡ 0 = omega (arith, e) in
+    ap (λ x. charge_in_turn (down_from n) (q - level_at rs (suc n)) (lower rs (suc n) x)) taken
+    ∙ ap (λ xs. charge_in_turn (down_from n) (q - level_at rs (suc n)) xs) (lower_none rs (suc n))
+    ∙ charge_down_nothing n (q - level_at rs (suc n)) rs left
 
 -- the root first
 pub charge_loss_root : (q : ℕ) (rs : ReserveRows) → charge_loss q rs ≡ charge_down 31 (q - level_at rs 0) (lower rs 0 (min q (level_at rs 0)))

@@ -1,8 +1,13 @@
--- A loop that writes f of each row in turn.
+-- Tables whose places are empty, and a loop that writes f of each row in turn.
 --     Mapped f old now i       it has come to the place i: those before are written, and the rest are as they were
-use Rattle.std.proofs.Common.{◌≡◌, ℕ, ◌+◌, ◌<◌, ◌≤◌, List, [], ◌∷◌, ◌++◌, length, get_or, map, take, drop, set, sym, ap, ◌∙◌, arith}
+use Rattle.std.proofs.Common.{◌≡◌, ℕ, zero, suc, ◌+◌, ◌<◌, ◌≤◌, List, [], ◌∷◌, ◌++◌, length, get_or, map, take, drop, set, replicate, None, Option, sym, refl, ap, ◌∙◌, arith}
 use Rattle.std.proofs.lemmas.List.{take_more, take_more_set, take_all, drop_more, drop-set-lt, length-take, length-drop, length-map, map-append}
 use Rattle.std.proofs.lemmas.Grind.{drop_more_same}
+
+pub nothing_there : {A : Type 0} (n k : ℕ) → get_or (replicate {A = Option A} n None) k None ≡ None
+nothing_there zero k = refl
+nothing_there (suc n) zero = refl
+nothing_there (suc n) (suc k) = nothing_there n k
 
 abbrev pub Mapped : {A : Type 0} → (A → A) → List A → List A → ℕ → Type 0
 Mapped f old now i = (take i now ≡ map f (take i old)) × (drop i now ≡ drop i old)

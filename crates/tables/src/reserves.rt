@@ -66,14 +66,15 @@ impl Table<Reserve, RESERVES> {
     pub fn new(held: u32) -> Reserves
         ensures result { result.rows ≡ first_reserves held }
     {
-        let mut rows = [None; RESERVES];
-        rows[usize::from(ROOT)] = Some(Reserve {
+        let mut reserves = Table::empty();
+        let root = Reserve {
             owner: ROOT_TASK,
             parent: ROOT,
             limit: G,
             level: held,
-        });
-        Table { rows }
+        };
+        reserves.open(ROOT, root);
+        reserves
     }
 
     // q less at an open reserve, or as much of it as is there.
@@ -81,7 +82,7 @@ impl Table<Reserve, RESERVES> {
         ensures after { self.new.rows ≡ lower self.old.rows i q }
     {
         if let Some(row) = self.get(i) {
-            self.put(usize::from(i), Some(row.lowered(q)));
+            self.replace(usize::from(i), row.lowered(q));
         }
     }
 
@@ -93,7 +94,7 @@ impl Table<Reserve, RESERVES> {
         let Some(row) = self.get(i) else {
             return q;
         };
-        self.put(usize::from(i), Some(row.filled(q)));
+        self.replace(usize::from(i), row.filled(q));
         q.saturating_sub(row.headroom())
     }
 
@@ -113,7 +114,7 @@ impl Table<Reserve, RESERVES> {
         let Some(row) = self.at(i) else {
             return q;
         };
-        self.put(i, Some(row.lowered(q.min(row.level))));
+        self.replace(i, row.lowered(q.min(row.level)));
         q.saturating_sub(row.level)
     }
 
@@ -124,6 +125,9 @@ impl Table<Reserve, RESERVES> {
     {
         let mut left = self.charge(usize::from(ROOT), q);
         for i in (1..RESERVES).rev() {
+            if left == 0 {
+                return;
+            }
             left = self.charge(i, left);
         }
     }

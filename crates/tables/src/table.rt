@@ -1,24 +1,57 @@
 // A table of numbered places, each of which is empty or holds a row.
-ghost use Rattle.std.specs.Prelude.{◌≡◌, Some, None, slice_index_or, slice_set};
+ghost use Rattle.std.specs.Prelude.{◌≡◌, ℕ, ◌≤◌, false, cond, Some, None, replicate, slice_index_or, slice_set};
+ghost use Rattle.tables.specs.Rows.{present};
 
+// No row stands from the end on.
 #[derive(Drop)]
 pub struct Table<T, const N: usize> {
     pub(crate) rows: [Option<T>; N],
+    pub(crate) end: usize,
+    ghost within: { end ≤ N },
+    ghost past: { (k : ℕ) → end ≤ k → present rows k ≡ false },
 }
 
 impl<T: Copy, const N: usize> Table<T, N> {
+    // Every place is empty.
+    pub(crate) fn empty() -> Table<T, N>
+        ensures result { result.rows ≡ replicate N None }
+    {
+        Table {
+            rows: [None; N],
+            end: 0,
+        }
+    }
+
     pub(crate) fn at(&self, i: usize) -> Option<T>
         ensures result { result ≡ slice_index_or self.now.rows i None }
     {
         self.rows.get(i).copied().flatten()
     }
 
-    pub(crate) fn put(&mut self, i: usize, row: Option<T>)
-        ensures after { self.new.rows ≡ slice_set self.old.rows i row }
+    // A number past the last place changes nothing.
+    pub(crate) fn put(&mut self, i: usize, row: T)
+        ensures after { self.new.rows ≡ slice_set self.old.rows i (Some row) }
     {
         if i < self.rows.len() {
-            self.rows[i] = row;
+            self.rows[i] = Some(row);
+            self.end = self.end.max(i + 1);
         }
+    }
+
+    // Another row at a place that has one.
+    pub(crate) fn replace(&mut self, i: usize, row: T)
+        ensures after { self.new.rows ≡ cond (present self.old.rows i) (slice_set self.old.rows i (Some row)) self.old.rows }
+    {
+        if i < self.rows.len() && self.rows[i].is_some() {
+            self.rows[i] = Some(row);
+        }
+    }
+
+    // From here on no row stands.
+    pub fn end(&self) -> usize
+        ensures result { result ≡ self.now.end }
+    {
+        self.end
     }
 
     pub fn get(&self, i: u8) -> Option<T>
@@ -27,16 +60,30 @@ impl<T: Copy, const N: usize> Table<T, N> {
         self.at(usize::from(i))
     }
 
-    // A number past the last place changes nothing.
     pub fn open(&mut self, i: u8, row: T)
         ensures after { self.new.rows ≡ slice_set self.old.rows i (Some row) }
     {
-        self.put(usize::from(i), Some(row));
+        self.put(usize::from(i), row);
     }
 
     pub fn close(&mut self, i: u8)
         ensures after { self.new.rows ≡ slice_set self.old.rows i None }
     {
-        self.put(usize::from(i), None);
+        let place = usize::from(i);
+        if place < self.rows.len() {
+            self.rows[place] = None;
+            self.shrink();
+        }
+    }
+
+    // The end comes down to the last row.
+    fn shrink(&mut self)
+        ensures same { self.new.rows ≡ self.old.rows }
+    {
+        let mut end = self.end;
+        while end > 0 && self.rows[end - 1].is_none() {
+            end -= 1;
+        }
+        self.end = end;
     }
 }

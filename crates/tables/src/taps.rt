@@ -48,9 +48,10 @@ fn carry(reserves: &mut Reserves, source: u8, sink: u8, due: u32) -> u32
     ensures result { result ≡ min due (min (level_at reserves.old.rows source) (headroom reserves.old.rows sink)) }
     ensures after { reserves.new.rows ≡ give (lower reserves.old.rows source result) sink result }
 {
-    let level = reserves.get(source).map_or(0, |row| row.level);
-    let room = reserves.get(sink).map_or(0, |row| row.headroom());
-    let moved = due.min(level.min(room));
+    let (Some(from), Some(to)) = (reserves.get(source), reserves.get(sink)) else {
+        return 0;
+    };
+    let moved = due.min(from.level.min(to.headroom()));
     reserves.lower(source, moved);
     let _ = reserves.fill(sink, moved);
     moved
@@ -60,7 +61,7 @@ impl Table<Tap, TAPS> {
     pub fn new() -> Taps
         ensures result { result.rows ≡ first_taps }
     {
-        Table { rows: [None; TAPS] }
+        Table::empty()
     }
 
     // Some open tap begins or ends at reserve i.
@@ -80,7 +81,7 @@ impl Table<Tap, TAPS> {
         let Some((due, after)) = tap.step() else {
             return 0;
         };
-        self.put(k, Some(after));
+        self.replace(k, after);
         carry(reserves, tap.source, tap.sink, due)
     }
 }
