@@ -1,23 +1,43 @@
 -- The turns of the taps in one tick, one after the other.
-use Rattle.std.proofs.Common.{◌≡◌, ℕ, zero, suc, ◌+◌, ◌<◌, List, [], ◌∷◌, ◌++◌, length, get_or, take, set, None, Option, sym, refl, ap, ◌∙◌, subst}
-use Rattle.std.proofs.lemmas.List.{take_more, take_more_set}
+use Rattle.std.proofs.Common.{◌≡◌, ℕ, zero, suc, ◌+◌, ◌-◌, ◌<◌, ◌≤◌, false, List, [], ◌∷◌, ◌++◌, length, get_or, map, take, drop, set, replicate, is_some, Some, None, Option, sym, refl, ap, ◌∙◌, subst, arith}
+use Rattle.std.proofs.lemmas.List.{append_assoc, length-replicate, take_more, take_more_set, take-append-drop, length-append, length-take, length-drop, get_or-drop, map-append}
+use Rattle.std.proofs.Math.Seq.{take-append_seam, drop-append_seam}
+use Rattle.std.proofs.lemmas.Bool.{true≢false}
+use Rattle.tables.specs.Rows.{present}
 use Rattle.tables.specs.declared.taps.Tap.{Tap}
 use Rattle.tables.specs.Reserves.{ReserveRows}
 use Rattle.tables.proofs.RowLaws.{Mapped, mapped_here, mapped_more}
-use Rattle.tables.specs.Taps.{TapRows, stepped, figure_of, moved, after_moves, Figures, TapFits, Ran}
+use Rattle.tables.specs.Taps.{TapRows, stepped, figure_of, moved, after_moves, Figures, TapFits, Ran, Turns}
 
--- the turn of one tap more
-pub moves_more : (rs : ReserveRows) (ts : TapRows) (qs : List ℕ) (t : Option Tap) (q : ℕ) → Figures rs ts qs → after_moves rs (ts ++ t ∷ []) (qs ++ q ∷ []) ≡ moved (after_moves rs ts qs) t q
-moves_more rs [] [] t q f = refl
-moves_more rs [] (p ∷ qs) t q f = absurd f
-moves_more rs (s ∷ ts) [] t q f = absurd f
-moves_more rs (s ∷ ts) (p ∷ qs) t q f = moves_more (moved rs s p) ts qs t q f.1
+-- the turns of some taps, and then those of others
+pub moves_append : (rs : ReserveRows) (ts us : TapRows) (qs ps : List ℕ) → Figures rs ts qs → after_moves rs (ts ++ us) (qs ++ ps) ≡ after_moves (after_moves rs ts qs) us ps
+moves_append rs [] us [] ps f = refl
+moves_append rs [] us (q ∷ qs) ps f = absurd f
+moves_append rs (t ∷ ts) us [] ps f = absurd f
+moves_append rs (t ∷ ts) us (q ∷ qs) ps f = moves_append (moved rs t q) ts us qs ps f.1
 
-pub figures_more : (rs : ReserveRows) (ts : TapRows) (qs : List ℕ) (t : Option Tap) (q : ℕ) → Figures rs ts qs → q ≡ figure_of (after_moves rs ts qs) t → Figures rs (ts ++ t ∷ []) (qs ++ q ∷ [])
-figures_more rs [] [] t q f e = (e, tt)
-figures_more rs [] (p ∷ qs) t q f e = absurd f
-figures_more rs (s ∷ ts) [] t q f e = absurd f
-figures_more rs (s ∷ ts) (p ∷ qs) t q f e = (f.0, figures_more (moved rs s p) ts qs t q f.1 e)
+pub figures_append : (rs : ReserveRows) (ts us : TapRows) (qs ps : List ℕ) → Figures rs ts qs → Figures (after_moves rs ts qs) us ps → Figures rs (ts ++ us) (qs ++ ps)
+figures_append rs [] us [] ps f g = g
+figures_append rs [] us (q ∷ qs) ps f g = absurd f
+figures_append rs (t ∷ ts) us [] ps f g = absurd f
+figures_append rs (t ∷ ts) us (q ∷ qs) ps f g = (f.0, figures_append (moved rs t q) ts us qs ps f.1 g)
+
+-- where no tap is open, nothing moves
+idle_figures : (rs : ReserveRows) (ts : TapRows) → ((k : ℕ) → present ts k ≡ false) → Figures rs ts (replicate (length ts) 0)
+idle_figures rs [] none = tt
+idle_figures rs (None ∷ ts) none = (refl, idle_figures rs ts (λ k. none (suc k)))
+idle_figures rs (Some t ∷ ts) none = absurd (true≢false (none 0))
+
+idle_moves : (rs : ReserveRows) (ts : TapRows) (qs : List ℕ) → ((k : ℕ) → present ts k ≡ false) → after_moves rs ts qs ≡ rs
+idle_moves rs [] qs none = refl
+idle_moves rs (t ∷ ts) [] none = refl
+idle_moves rs (None ∷ ts) (q ∷ qs) none = idle_moves rs ts qs (λ k. none (suc k))
+idle_moves rs (Some t ∷ ts) (q ∷ qs) none = absurd (true≢false (none 0))
+
+idle_steps : (ts : TapRows) → ((k : ℕ) → present ts k ≡ false) → map stepped ts ≡ ts
+idle_steps [] none = refl
+idle_steps (None ∷ ts) none = ap (λ xs. None ∷ xs) (idle_steps ts (λ k. none (suc k)))
+idle_steps (Some t ∷ ts) none = absurd (true≢false (none 0))
 
 -- what tap k's turn makes of the turns before it
 pub turn_more : (start : ReserveRows) (ts : TapRows) (report : List ℕ) (k q : ℕ) (rs rs' : ReserveRows) (now now' : TapRows) → k < length ts → k < length report → TapFits (get_or ts k None)
@@ -31,11 +51,53 @@ turn_more start ts report k q rs rs' now now' lt room fits tapped stands figures
     let told : take (k + 1) (set report k q) ≡ take k report ++ q ∷ [] = take_more_set report k q room in (
       subst (λ xs. Mapped stepped ts xs (k + 1)) (sym (ran.taps fit)) (mapped_more stepped ts now k tapped None lt),
       ran.reserves fit ∙ ap (λ o. moved rs o q) row ∙ ap (λ x. moved x (get_or ts k None) q) stands
-          ∙ sym (moves_more start (take k ts) (take k report) (get_or ts k None) q figures)
+          ∙ sym (moves_append start (take k ts) (get_or ts k None ∷ []) (take k report) (q ∷ []) figures)
           ∙ ap (λ xs. after_moves start xs (take k report ++ q ∷ [])) (sym front) ∙ ap (after_moves start (take (k + 1) ts)) (sym told),
       subst (λ xs. Figures start xs (take (k + 1) (set report k q))) (sym front)
-          (subst (Figures start (take k ts ++ get_or ts k None ∷ [])) (sym told) (figures_more start (take k ts) (take k report) (get_or ts k None) q figures figure)),
+          (subst (Figures start (take k ts ++ get_or ts k None ∷ [])) (sym told) (figures_append start (take k ts) (get_or ts k None ∷ []) (take k report) (q ∷ []) figures (figure, tt))),
     )
+
+-- the turns of the taps below the end are those of all
+pub all_turned : (start : ReserveRows) (ts : TapRows) (report : List ℕ) (end : ℕ) (rs : ReserveRows) (now : TapRows) → length ts ≡ 96 → end ≤ 96 → ((k : ℕ) → end ≤ k → present ts k ≡ false)
+    → Mapped stepped ts now end → rs ≡ after_moves start (take end ts) (take end report) → Figures start (take end ts) (take end report)
+    → Turns start ts (take end report ++ replicate (96 - end) 0) rs now
+all_turned start ts report end rs now size within past tapped stands figures =
+    let rest : TapRows = drop end ts in
+    let none : (k : ℕ) → present rest k ≡ false = λ k. ap is_some (get_or-drop end ts k None) ∙ past (end + k) (omega arith) in
+    let count : length rest ≡ 96 - end = omega (arith, length-drop end ts, size) in
+    let zeros : List ℕ = replicate (96 - end) 0 in
+    let whole : take end ts ++ rest ≡ ts = take-append-drop end ts in
+    let idle : Figures (after_moves start (take end ts) (take end report)) rest zeros = subst (λ n. Figures (after_moves start (take end ts) (take end report)) rest (replicate n 0)) count (idle_figures (after_moves start (take end ts) (take end report)) rest none) in
+    record {
+      figures = subst (λ xs. Figures start xs (take end report ++ zeros)) whole (figures_append start (take end ts) rest (take end report) zeros figures idle);
+      reserves = stands ∙ sym (idle_moves (after_moves start (take end ts) (take end report)) rest zeros none)
+          ∙ sym (moves_append start (take end ts) rest (take end report) zeros figures) ∙ ap (λ xs. after_moves start xs (take end report ++ zeros)) whole;
+      taps = sym (take-append-drop end now) ∙ ap (λ xs. xs ++ drop end now) tapped.0 ∙ ap (λ xs. map stepped (take end ts) ++ xs) (tapped.1 ∙ sym (idle_steps rest none))
+          ∙ sym (map-append stepped (take end ts) rest) ∙ ap (map stepped) whole;
+    }
+
+-- the report of a tick: the figures of the taps below the end, and 0 up to the 96th place
+module _ (report zeros further : List ℕ) (end : ℕ) (within : end ≤ 96) (room : 96 ≤ length report) (blank : zeros ≡ replicate (length (take (96 - end) (drop end report))) 0) where
+  filled : zeros ≡ replicate (96 - end) 0
+  filled = blank ∙ ap (λ n. replicate n 0) (omega (arith, length-take (96 - end) (drop end report), length-drop end report))
+
+  size : length (take end report ++ zeros) ≡ 96
+  size =
+      let all : length zeros ≡ 96 - end = ap length filled ∙ length-replicate {A = ℕ} (96 - end) 0 in
+      omega (arith, all, length-append (take end report) zeros, length-take end report)
+
+  pub figures_reported : take 96 (take end report ++ (zeros ++ further)) ≡ take end report ++ replicate (96 - end) 0
+  figures_reported =
+      ap (take 96) (sym (append_assoc (take end report) zeros further))
+      ∙ ap (λ n. take n ((take end report ++ zeros) ++ further)) (sym size)
+      ∙ take-append_seam (take end report ++ zeros) further
+      ∙ ap (λ xs. take end report ++ xs) filled
+
+  pub further_reported : drop 96 (take end report ++ (zeros ++ further)) ≡ further
+  further_reported =
+      ap (drop 96) (sym (append_assoc (take end report) zeros further))
+      ∙ ap (λ n. drop n ((take end report ++ zeros) ++ further)) (sym size)
+      ∙ drop-append_seam (take end report ++ zeros) further
 
 -- the figure of tap k is what it moves at its turn
 pub figure_at : (rs : ReserveRows) (ts : TapRows) (qs : List ℕ) (k : ℕ) → Figures rs ts qs → get_or qs k 0 ≡ figure_of (after_moves rs (take k ts) (take k qs)) (get_or ts k None)

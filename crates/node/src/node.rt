@@ -1,6 +1,7 @@
 // A node: reserves, taps and grants over a store of harvested energy.
-ghost use Rattle.std.specs.Prelude.{◌≡◌, ◌-◌, true, false, drop, IfOk, IfErr, OnErr, OnOk};
+ghost use Rattle.std.specs.Prelude.{◌≡◌, ◌-◌, ◌≤◌, true, false, length, take, drop, IfOk, IfErr, OnErr, OnOk};
 ghost use Rattle.store.specs.Meaning.{Meaning};
+ghost use Rattle.tables.specs.Taps.{AllFit, Turns};
 ghost use Rattle.node.specs.Calls.{settle as settlement, park as park_call, recall as recall_call, audited};
 ghost use Rattle.node.specs.Rules.{turned_down};
 ghost use Rattle.node.specs.Runs.{Lawful};
@@ -40,6 +41,20 @@ fn draw<S: Store>(store: &mut S, task: u8, reserve: u8, amount: u32) -> Result<(
         reserve,
         fault,
     })
+}
+
+// The turns of all taps, in ascending number: what each moved, and 0 where none is open. The rules fix this order, and a
+// loop with an index for it.
+fn run_taps(taps: &mut Taps, reserves: &mut Reserves, report: &mut [u32])
+    requires { 96 ≤ length report.old }
+    ensures turns { AllFit taps.old.rows → Turns reserves.old.rows taps.old.rows (take 96 report.new) reserves.new.rows taps.new.rows }
+    ensures further { drop 96 report.new ≡ drop 96 report.old }
+{
+    let end = taps.end();
+    for k in 0..end {
+        report[k] = taps.run(k, reserves);
+    }
+    report[end..TAPS].fill(0);
 }
 
 // That a refused call changes nothing, and that four calls leave the store as it is, each contract says: it is said of
@@ -210,10 +225,7 @@ impl<S: Store> Node<S> {
         self.reserves.charge_loss(loss);
         let intake = self.store.charge(harvest);
         let _ = self.reserves.fill(ROOT, intake);
-        // The rules fix the order of the taps, and a loop with an index for it.
-        for k in 0..TAPS {
-            report[k] = self.taps.run(k, &mut self.reserves);
-        }
+        run_taps(&mut self.taps, &mut self.reserves, report);
         self.ticks += 1;
         self.books.tick(harvest, loss, intake);
         Ok((loss, intake))

@@ -10,7 +10,9 @@
 --     Figures rs ts qs        the figures are those of the taps, each at its turn
 --     TapFits o               the row o, if one is there, has a rate
 --     Ran k rs ts q rs' ts'   what tap k's turn moved, and what it left
-use Rattle.std.specs.Prelude.{◌≡◌, ℕ, min, Bool, false, ◌||◌, List, [], ◌∷◌, replicate, Some, None, Option, ◌==◌, slice_index_or, slice_set}
+--     AllFit ts               there are 96 rows, and every open tap has a rate
+--     Turns rs ts qs rs' ts'  what the turns of all taps moved, and what they left
+use Rattle.std.specs.Prelude.{◌≡◌, ℕ, min, Bool, false, ◌||◌, List, [], ◌∷◌, length, map, replicate, Some, None, Option, ◌==◌, slice_index_or, slice_set}
 use Rattle.rates.specs.Rate.{Fits, due, remainder}
 use Rattle.tables.specs.declared.taps.Tap.{Tap}
 use Rattle.tables.specs.Reserves.{ReserveRows, level_at, headroom, give, lower}
@@ -66,3 +68,11 @@ pub record Ran (k : ℕ) (rs : ReserveRows) (ts : TapRows) (q : ℕ) (rs' : Rese
   pub reserves : TapFits (slice_index_or ts k None) → rs' ≡ moved rs (slice_index_or ts k None) q
   pub taps : TapFits (slice_index_or ts k None) → ts' ≡ slice_set ts k (stepped (slice_index_or ts k None))
   pub idle : (TapFits (slice_index_or ts k None) → ⊥) → (q ≡ 0) × (rs' ≡ rs) × (ts' ≡ ts)
+
+abbrev pub AllFit : TapRows → Type 0
+AllFit ts = (length ts ≡ 96) × ((k : ℕ) → TapFits (slice_index_or ts k None))
+
+pub record Turns (rs : ReserveRows) (ts : TapRows) (qs : List ℕ) (rs' : ReserveRows) (ts' : TapRows) : Type 0 where
+  pub figures : Figures rs ts qs
+  pub reserves : rs' ≡ after_moves rs ts qs
+  pub taps : ts' ≡ map stepped ts

@@ -1,0 +1,12 @@
+use Rattle.std.proofs.Common.{◌≡◌, take, drop}
+use Rattle.tables.specs.Taps.{stepped, AllFit, after_moves, Figures}
+use Rattle.tables.proofs.RowLaws.{Mapped}
+use Rattle.node.proofs.node.run_taps.Given as goal
+
+abbrev pub invariant-loop-k : goal.invariant-loop-k
+invariant-loop-k l =
+    (drop 96 l.report ≡ drop 96 l.initial.report)
+    × (AllFit l.initial.taps.rows
+    → Mapped stepped l.initial.taps.rows l.taps.rows l.k
+    × (l.reserves.rows ≡ after_moves l.initial.reserves.rows (take l.k l.initial.taps.rows) (take l.k l.report))
+    × Figures l.initial.reserves.rows (take l.k l.initial.taps.rows) (take l.k l.report))
