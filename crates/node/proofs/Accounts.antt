@@ -1,6 +1,6 @@
 -- What the node counts, against the list of calls and what the store holds.
 use Rattle.std.proofs.Common.{◌≡◌, ℕ, ◌+◌, true, false, List, [], ◌∷◌, sym, refl, ◌∙◌, subst, arith}
-use Rattle.tables.specs.declared.grants.Grant.{Grant}
+use Rattle.tables.specs.declared.grant.Grant.{Grant}
 use Rattle.tables.specs.declared.books.Books.{Books}
 use Rattle.node.specs.Calls.{History, refused, opened, closed, tapped, shut, granted, settled, parked, recalled, ticked, audited}
 use Rattle.node.specs.Law.{standing_after, outstanding}

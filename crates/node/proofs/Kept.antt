@@ -4,7 +4,7 @@ use Rattle.std.proofs.lemmas.List.{length-map}
 use Rattle.rates.specs.Amount.{bound}
 use Rattle.store.specs.Meaning.{Sound}
 use Rattle.tables.specs.declared.books.Books.{Books}
-use Rattle.tables.specs.declared.grants.Grant.{Grant}
+use Rattle.tables.specs.declared.grant.Grant.{Grant}
 use Rattle.tables.specs.Grants.{mark}
 use Rattle.node.specs.Standing.{Standing}
 use Rattle.node.specs.Calls.{Event, refused, opened, closed, tapped, shut, granted, settled, parked, recalled, ticked, audited}

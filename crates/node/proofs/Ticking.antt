@@ -4,7 +4,7 @@ use borrow.Author.Tests.{lt-leb}
 use Rattle.rates.specs.Amount.{bound}
 use Rattle.store.specs.Meaning.{Meaning, Sound, Charged, Ticked}
 use Rattle.tables.specs.declared.taps.Tap.{Tap}
-use Rattle.tables.specs.declared.grants.Grant.{Grant}
+use Rattle.tables.specs.declared.grant.Grant.{Grant}
 use Rattle.tables.specs.declared.books.Books.{Books}
 use Rattle.tables.specs.Reserves.{ReserveRows, fill, charge_loss}
 use Rattle.tables.specs.Taps.{TapRows, TapFits, stepped, after_moves, Figures, AllFit, Turns}

@@ -1,10 +1,9 @@
 -- The turns of the taps in one tick, one after the other.
-use Rattle.std.proofs.Common.{◌≡◌, ℕ, zero, suc, ◌+◌, ◌-◌, ◌<◌, ◌≤◌, false, List, [], ◌∷◌, ◌++◌, length, get_or, map, take, drop, set, replicate, is_some, Some, None, Option, sym, refl, ap, ◌∙◌, subst, arith}
+use Rattle.std.proofs.Common.{◌≡◌, ℕ, zero, suc, ◌+◌, ◌-◌, ◌<◌, ◌≤◌, false, List, [], ◌∷◌, ◌++◌, length, get_or, map, take, drop, set, replicate, is_some, Some, None, sym, refl, ap, ◌∙◌, subst, arith}
 use Rattle.std.proofs.lemmas.List.{append_assoc, length-replicate, take_more, take_more_set, take-append-drop, length-append, length-take, length-drop, get_or-drop, map-append}
 use Rattle.std.proofs.Math.Seq.{take-append_seam, drop-append_seam}
 use Rattle.std.proofs.lemmas.Bool.{true≢false}
 use Rattle.tables.specs.Rows.{present}
-use Rattle.tables.specs.declared.taps.Tap.{Tap}
 use Rattle.tables.specs.Reserves.{ReserveRows}
 use Rattle.tables.proofs.RowLaws.{Mapped, mapped_here, mapped_more}
 use Rattle.tables.specs.Taps.{TapRows, stepped, figure_of, moved, after_moves, Figures, TapFits, Ran, Turns}

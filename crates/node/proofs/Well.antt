@@ -5,7 +5,7 @@ use Rattle.std.proofs.lemmas.Bool.{cases_eq, eqb-true, eqb-false, and_parts, or_
 use Rattle.rates.specs.Amount.{bound}
 use Rattle.tables.specs.declared.reserves.Reserve.{Reserve}
 use Rattle.tables.specs.declared.taps.Tap.{Tap}
-use Rattle.tables.specs.declared.grants.Grant.{Grant}
+use Rattle.tables.specs.declared.grant.Grant.{Grant}
 use Rattle.std.specs.List.{list_any}
 use Rattle.std.specs.Option.{option_or}
 use Rattle.tables.specs.Rows.{present}
@@ -16,7 +16,8 @@ use Rattle.node.specs.Standing.{Standing, born}
 use Rattle.node.specs.Calls.{Event, refused, opened, closed, tapped, shut, granted, settled, parked, recalled, ticked, audited}
 use Rattle.node.specs.Rules.{after, before_taps}
 use Rattle.node.specs.Sound.{levels, Within, Parents, TapWell, TapsWell, GrantsWell, Ledger, Well}
-use Rattle.node.proofs.Places.{none_some, nothing_there, some_same, read_written, read_elsewhere, read_empty, get_or_map}
+use Rattle.tables.proofs.RowLaws.{nothing_there}
+use Rattle.node.proofs.Places.{none_some, some_same, read_written, read_elsewhere, read_empty, get_or_map}
 use Rattle.node.proofs.Facts.{Facts, Opening, Closing, Ticking}
 use Rattle.node.proofs.Ledger.{ledger_granted, ledger_without, ledger_marked}
 use Rattle.node.proofs.Levels.{levels_set, levels_give, levels_lower, levels_return, levels_charge_loss}

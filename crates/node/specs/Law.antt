@@ -17,7 +17,7 @@
 --     Law birth h held t               the whole law, of the totals t that an audit answers over a store that holds held
 use Rattle.std.specs.Prelude.{◌≡◌, ℕ, ◌+◌, ◌-◌, ◌*◌, ◌/◌, ◌≤◌, Bool, false, cond, ◌↔◌, List, [], ◌∷◌, take, Some, None, Option, ◌==◌, slice_index, slice_index_or}
 use Rattle.tables.specs.declared.taps.Tap.{Tap}
-use Rattle.tables.specs.declared.grants.Grant.{Grant}
+use Rattle.tables.specs.declared.grant.Grant.{Grant}
 use Rattle.tables.specs.Reserves.{ReserveRows, level_at, headroom}
 use Rattle.tables.specs.Taps.{TapRows, tap_due, after_moves}
 use Rattle.node.specs.declared.totals.Totals.{Totals}

@@ -15,7 +15,7 @@ use Rattle.tables.specs.Reserves.{ReserveRows, owns, level_at, parent_of, give, 
 use Rattle.tables.specs.Taps.{TapRows, ends_at, stepped, after_moves}
 use Rattle.tables.specs.Grants.{reserve_of, fits_out, fits_parked, of_reserve, without, marked}
 use Rattle.tables.specs.declared.taps.Tap.{Tap}
-use Rattle.tables.specs.declared.grants.Grant.{Grant}
+use Rattle.tables.specs.declared.grant.Grant.{Grant}
 use Rattle.node.specs.declared.denial.Denial.{Denial}
 use Rattle.node.specs.declared.denial.Denial.TheVariants.{ShortReport, OutOfRange, Absent, AlreadyOpen, NoSuchGrant, NotOwner, SameEnds}
 use Rattle.node.specs.declared.denial.Denial.TheVariants.{AboveLimit, InUse, Overused, TooManyGrants, Exhausted, LevelTooLow, StoreRefused}

@@ -15,7 +15,7 @@ use Rattle.tables.specs.Rows.{present}
 use Rattle.tables.specs.Reserves.{ReserveRows, level_in, limit_in, level_at, parent_of}
 use Rattle.tables.specs.Taps.{TapRows}
 use Rattle.tables.specs.declared.taps.Tap.{Tap}
-use Rattle.tables.specs.declared.grants.Grant.{Grant}
+use Rattle.tables.specs.declared.grant.Grant.{Grant}
 use Rattle.tables.specs.declared.books.Books.{Books}
 use Rattle.node.specs.Standing.{Standing}
 use Rattle.node.specs.Steps.{State}

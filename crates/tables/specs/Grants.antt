@@ -4,14 +4,14 @@
 --     fits_out s q gs           the grant with the serial s is out, and its amount is q
 --     fits_parked s gs          the grant with the serial s is parked
 --     of_reserve i g            the grant g is of reserve i
---     added g gs                the grants and g after them, where fewer than 64 are open
+--     added n g gs              the grants and g after them, where its serial is new, above n, and fewer than 64 are open
 --     without serial gs         the grants but for the one with this serial
 --     mark p serial g           the grant g, parked or out by p where it has this serial
 --     marked p serial gs        the grants, with the one with this serial parked (p true) or out (p false)
 --     open_in t                 the open grants that the table t holds
 use Rattle.std.specs.Prelude.{ℕ, Bool, false, cond, not, ◌&&◌, List, [], ◌∷◌, ◌++◌, length, filter, map, Some, None, Option, ◌==◌, nat_lt}
 use Rattle.std.specs.Option.{option_or}
-use Rattle.tables.specs.declared.grants.Grant.{Grant}
+use Rattle.tables.specs.declared.grant.Grant.{Grant}
 use Rattle.tables.specs.declared.grants.Grants.{Grants}
 
 abbrev pub open_in : Grants → List Grant
@@ -53,8 +53,8 @@ fits_parked serial gs = is_parked (grant_of serial gs)
 abbrev pub of_reserve : ℕ → Grant → Bool
 of_reserve i g = g.reserve == i
 
-abbrev pub added : Grant → List Grant → List Grant
-added g gs = cond (nat_lt (length gs) 64) (gs ++ g ∷ []) gs
+abbrev pub added : ℕ → Grant → List Grant → List Grant
+added n g gs = cond (nat_lt n g.serial && nat_lt (length gs) 64) (gs ++ g ∷ []) gs
 
 abbrev pub without : ℕ → List Grant → List Grant
 without serial gs = filter (λ g. not (g.serial == serial)) gs

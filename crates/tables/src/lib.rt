@@ -2,13 +2,15 @@
 #![tactic(auto)]
 
 mod books;
+mod grant;
 mod grants;
 mod reserves;
 mod table;
 mod taps;
 
 pub use books::Books;
-pub use grants::{GRANTS, Grant, Grants};
+pub use grant::Grant;
+pub use grants::{GRANTS, Grants};
 pub use reserves::{LAST_RESERVE, ROOT, ROOT_TASK, Reserve, Reserves};
 pub use table::Table;
 pub use taps::{LAST_TAP, TAPS, Tap, Taps};

@@ -32,7 +32,7 @@ returns-clause-turns c fit =
     let turned : P c.end-end.result = subst P last ran in
     subst (λ qs. Turns c.args.reserves.now.rows c.args.taps.now.rows qs c.loop-k.reserves.rows c.loop-k.taps.rows) (sym told)
     (all_turned c.args.reserves.now.rows c.args.taps.now.rows c.loop-k.report c.end-end.result c.loop-k.reserves.rows c.loop-k.taps.rows fit.0 within
-        (λ k le. c.args.taps.now.past k (omega (arith, le, c.end-end.ensures.result))) turned.0 turned.1 turned.2)
+    (λ k le. c.args.taps.now.past k (omega (arith, le, c.end-end.ensures.result))) turned.0 turned.1 turned.2)
 
 pub returns-clause-further : goal.returns-clause-further
 returns-clause-further c =

@@ -1,13 +1,13 @@
-use Rattle.std.proofs.Common.{eqb, ◌∙◌, rules, tests}
-use Rattle.std.proofs.lemmas.Iterator.Adapters.{YieldsList-from_rev_slice}
-use Rattle.std.proofs.lemmas.Iterator.Search.{find_from_yields_List}
-use Rattle.tables.specs.Grants.{open_in}
-use Rattle.tables.proofs.GrantLaws.{grant_of_last}
+use Rattle.std.proofs.Common.{sym, ◌∙◌, rules}
+use Rattle.tables.proofs.GrantLaws.{none_found, some_found}
 use Rattle.tables.proofs.grants.Grants.find.Goals as goal
 
+pub returns-in_err-place : goal.returns-in_err-place
+returns-in_err-place c =
+    let none = none_found c.args.serial c.args.self.now.serials 0 c.args.self.now.rows.items c.args.self.now.rising (sym c.place.ensures.result ∙ c.in_err-place.was) in
+    record { result = c.from_residual.ensures ∙ sym none }
+
 pub returns : goal.returns
-returns c = record {
-  result = c.copied.ensures
-      ∙ find_from_yields_List (λ g. eqb g.serial c.args.serial) _ _ c.find.result c.find.ensures.ran (YieldsList-from_rev_slice (open_in c.args.self.now) cc) (λ x b q k. search (rules, tests))
-      ∙ grant_of_last c.args.serial (open_in c.args.self.now);
-}
+returns c =
+    let some = some_found c.args.serial c.args.self.now.serials 0 c.args.self.now.rows.items c.args.self.now.rising c.in_ok-place.place (sym c.place.ensures.result ∙ c.in_ok-place.was) in
+    search rules

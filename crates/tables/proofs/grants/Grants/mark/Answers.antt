@@ -1,13 +1,18 @@
-use Rattle.std.proofs.Common.{ℕ, ◌+◌, List, set, sym, subst, arith}
-use Rattle.tables.specs.declared.grants.Grant.{Grant}
-use Rattle.tables.specs.Grants.{mark}
-use Rattle.tables.proofs.RowLaws.{Mapped, mapped_more}
+use Rattle.std.proofs.Common.{sym, subst, arith, ◌∙◌}
+use Rattle.std.proofs.lemmas.Grind.{common_steps}
+use Rattle.tables.specs.Serials.{Rising}
+use Rattle.tables.proofs.GrantLaws.{none_marked, some_marked, rising_marked}
 use Rattle.tables.proofs.grants.Grants.mark.Goals as goal
 
-pub loop-grant-preserved : goal.loop-grant-preserved
-loop-grant-preserved c =
-    let i : ℕ = c.loop-grant.grant-index in
-    let now : List Grant = c.loop-grant.grant-items in
-    let old : List Grant = c.deref_mut-grant-items.result.now in
-    let f : Grant → Grant = mark c.args.parked c.args.serial in
-    subst (λ g. Mapped f old (set now i g) (i + 1)) (sym c.marked.ensures.result) (mapped_more f old now i c.loop-grant.invariant _ (omega arith))
+pub invariant_of-self : goal.invariant_of-self
+invariant_of-self c =
+    let some = some_marked c.args.serial c.args.self.now.serials 0 c.args.self.now.rows.items c.args.self.now.rising c.in-Some.place (sym c.place.ensures.result ∙ c.in-Some.is) c.args.parked in
+    record { rising = subst (Rising 0 c.args.self.now.serials) (grind (arith, common_steps)) (rising_marked c.args.parked c.args.serial 0 c.args.self.now.serials c.args.self.now.rows.items c.args.self.now.rising) }
+
+pub returns-in-Some-clause-after : goal.returns-in-Some-clause-after
+returns-in-Some-clause-after c =
+    let some = some_marked c.args.serial c.args.self.now.serials 0 c.args.self.now.rows.items c.args.self.now.rising c.in-Some.place (sym c.place.ensures.result ∙ c.in-Some.is) c.args.parked in
+    grind (arith, common_steps)
+
+pub returns-in_default-clause-after : goal.returns-in_default-clause-after
+returns-in_default-clause-after c = sym (none_marked c.args.serial c.args.self.now.serials 0 c.args.self.now.rows.items c.args.self.now.rising (sym c.place.ensures.result ∙ c.in_default.is) c.args.parked)

@@ -1,0 +1,95 @@
+// How grants are added, found, marked and removed.
+ghost use Rattle.std.specs.Prelude.{◌≡◌, ◌+◌, ◌-◌, ◌^◌, ◌≤◌, min, false, [], length, ◌==◌};
+ghost use Rattle.std.specs.List.{list_any, position};
+ghost use Rattle.tables.specs.Grants.{open_in, grant_of, of_reserve, added, without, marked};
+
+use super::{GRANTS, Grants};
+use crate::grant::Grant;
+use arrayvec::ArrayVec;
+
+impl Grants {
+    pub fn new() -> Grants
+        ensures open { open_in result ≡ [] }
+        ensures serials { result.serials ≡ 0 }
+    {
+        Grants {
+            rows: ArrayVec::new(),
+            serials: 0,
+        }
+    }
+
+    pub fn len(&self) -> usize
+        ensures result { result ≡ length (open_in self.now) }
+        ensures within { result ≤ 64 }
+    {
+        self.rows.len()
+    }
+
+    // The serial of the last grant that was given, 0 before the first.
+    pub fn serials(&self) -> u32
+        ensures result { result ≡ self.now.serials }
+    {
+        self.serials
+    }
+
+    // Where the grant with this serial stands.
+    fn place(&self, serial: u32) -> Option<usize>
+        ensures result { result ≡ position (λ g. g.serial == serial) (open_in self.now) }
+    {
+        self.rows.iter().position(|grant| grant.serial == serial)
+    }
+
+    pub fn find(&self, serial: u32) -> Option<Grant>
+        ensures result { result ≡ grant_of serial (open_in self.now) }
+    {
+        let place = self.place(serial)?;
+        Some(self.rows.as_slice()[place])
+    }
+
+    // Some open grant is of this reserve.
+    pub fn any_of(&self, reserve: u8) -> bool
+        ensures result { result ≡ list_any (of_reserve reserve) (open_in self.now) }
+    {
+        self.rows.iter().any(|grant| grant.reserve == reserve)
+    }
+
+    // One more grant, which is out: its serial. Where 64 are open, only the serial is used up.
+    pub fn add(&mut self, amount: u32, reserve: u8) -> u32
+        ensures result { result ≡ min (self.old.serials + 1) (2 ^ 32 - 1) }
+        ensures after { open_in self.new ≡ added self.old.serials (record { serial = result; amount = amount; reserve = reserve; parked = false }) (open_in self.old) }
+        ensures serials { self.new.serials ≡ result }
+    {
+        let Some(serial) = self.serials.checked_add(1) else {
+            return self.serials;
+        };
+        self.serials = serial;
+        let _ = self.rows.try_push(Grant {
+            serial,
+            amount,
+            reserve,
+            parked: false,
+        });
+        serial
+    }
+
+    // The grants but for the one with this serial.
+    pub fn remove(&mut self, serial: u32)
+        ensures after { open_in self.new ≡ without serial (open_in self.old) }
+        ensures serials { self.new.serials ≡ self.old.serials }
+    {
+        if let Some(place) = self.place(serial) {
+            let _ = self.rows.pop_at(place);
+        }
+    }
+
+    // The grant with this serial is parked, or is out.
+    pub fn mark(&mut self, serial: u32, parked: bool)
+        ensures after { open_in self.new ≡ marked parked serial (open_in self.old) }
+        ensures serials { self.new.serials ≡ self.old.serials }
+    {
+        if let Some(place) = self.place(serial) {
+            let rows = self.rows.as_mut_slice();
+            rows[place].parked = parked;
+        }
+    }
+}
