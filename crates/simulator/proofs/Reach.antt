@@ -1,10 +1,11 @@
 -- A node that is reached stays reached, whatever line is answered; and a node that is reached is sound.
-use Rattle.std.proofs.Common.{◌≡◌, ℕ, List, [], IfErr, Ok, Err, Result, sym, ap, subst}
+use Rattle.std.proofs.Common.{refl, ◌≡◌, ℕ, List, [], IfErr, Ok, Err, Result, sym, ap, subst}
 use Rattle.store.specs.declared.store.Store.{Ghosts}
 use Rattle.rates.specs.declared.amount.OutOfRange.{OutOfRange as Outside}
+
 use Rattle.node.specs.declared.node.Node.{Node}
 use Rattle.node.specs.Calls.{Event, History}
-use Rattle.node.specs.Node.{Extends, SoundNode}
+use Rattle.node.specs.Node.{Newborn, Extends, SoundNode}
 use Rattle.node.specs.Runs.{Run, new, next}
 use Rattle.node.proofs.Reaching.{called}
 use Rattle.frame.specs.Frame.{frame_in}
@@ -97,6 +98,10 @@ replied s (Err f) r s' p at = subst Reached (sym p.1) at
 -- whatever the line is
 pub stays_reached : (s : Simulator) (line : List ℕ) (r : Result Answer FrameFault) (s' : Simulator) → Replies s line r s' → Reached s → Reached s'
 stays_reached s line r s' p at = replied s (frame_in line) r s' p at
+
+-- a node over a store that can be built
+pub builds : {S : Type 0} (G : Ghosts S) (put : Node S → Simulator) (made : Result S Outside) (x : S) (n : Node S) → made ≡ Ok x → G.sound x → Newborn G x n → Builds G put made (Ok (put n))
+builds G put made x n e ok born = subst (λ m. Builds G put m (Ok (put n))) (sym e) (n, refl, ok, born)
 
 -- a refusal that leaves the node leaves what stands
 pub same_node : {S : Type 0} (put : Node S → Simulator) (n m : Node S) (r : Result Answer FrameFault) → IfErr r (λ _. m ≡ n) → SameIfRefused r (put n) (put m)
