@@ -1,12 +1,12 @@
 // Reads frames from standard input, one to a line, and writes one answer line for each.
 #![tactic(auto)]
 
-ghost use Rattle.std.specs.Prelude.{◌≡◌, [], Result, OnOk};
+ghost use Rattle.std.specs.Prelude.{◌≡◌, ◌≤◌, ◌+◌, Result, OnOk, take};
 ghost use Rattle.frame.specs.declared.answer.Answer.{Answer};
 ghost use Rattle.frame.specs.declared.fault.FrameFault.{FrameFault};
 ghost use Rattle.simulator.specs.Simulator.{Replies};
+ghost use Rattle.cindersim.specs.Held.{Waits, Adds};
 
-use arrayvec::ArrayVec;
 use filter::Script;
 use frame::ROOM;
 use simulator::Simulator;
@@ -56,33 +56,45 @@ An accepted frame is answered 00 and the fields told, a refused one its number:
 struct Session {
     simulator: Simulator,
     output: Stdout,
-    answers: ArrayVec<u8, BUFFER>,
+    buffer: [u8; BUFFER],
+    // So many bytes of the buffer are answers.
+    len: usize,
+    ghost within: { len ≤ 65536 },
 }
 
 impl Session {
     // Writes the answers that are held.
     fn write(&mut self) -> io::Result<()>
-        ensures after { OnOk result (self.new.answers.items ≡ []) }
+        ensures after { OnOk result (self.new.len ≡ 0) }
         ensures same { self.new.simulator ≡ self.old.simulator }
     {
-        self.output.write_all(&self.answers)?;
-        self.answers.clear();
+        self.output.write_all(&self.buffer[..self.len])?;
+        self.len = 0;
+        Ok(())
+    }
+
+    // Writes them where there is no room for one more.
+    fn make_room(&mut self) -> io::Result<()>
+        ensures room { OnOk result (self.new.len + 160 ≤ 65536) }
+        ensures waits { OnOk result (Waits (take self.old.len self.old.buffer) (take self.new.len self.new.buffer)) }
+        ensures same { self.new.simulator ≡ self.old.simulator }
+    {
+        if BUFFER - self.len < ROOM {
+            self.write()?;
+        }
         Ok(())
     }
 }
 
 impl Script for Session {
-    // The simulator replies to the line.
-    ghost hears = { λ s line s'. (a : Result Answer FrameFault) × Replies s.simulator line a s'.simulator };
+    // The simulator replies to the line, and the answer is held.
+    ghost hears = { λ s line s'. (r : Result Answer FrameFault) × Replies s.simulator line r s'.simulator × Adds (take s.len s.buffer) r (take s'.len s'.buffer) };
 
     fn line(&mut self, line: &[u8]) -> io::Result<()> {
-        if self.answers.remaining_capacity() < ROOM {
-            self.write()?;
-        }
-        let mut answer = [0; ROOM];
-        // The array is as long as an answer may ask, so there is one.
-        if let Ok(len) = self.simulator.answer(line, &mut answer) {
-            self.answers.try_extend_from_slice(&answer[..len]).unwrap();
+        self.make_room()?;
+        // The rest of the buffer is as long as an answer may ask, so there is one.
+        if let Ok(len) = self.simulator.answer(line, &mut self.buffer[self.len..]) {
+            self.len += len;
         }
         Ok(())
     }
@@ -96,7 +108,8 @@ fn main(rt: HostRuntime) -> ExitCode {
     let mut session = Session {
         simulator: Simulator::new(),
         output: rt.stdout(),
-        answers: ArrayVec::new(),
+        buffer: [0; BUFFER],
+        len: 0,
     };
     filter::run(&rt, "cindersim", HELP, &mut session)
 }

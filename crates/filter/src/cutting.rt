@@ -4,7 +4,7 @@ ghost use Rattle.frame.specs.Prefix.{kept, cut, HasRead};
 ghost use Rattle.filter.specs.Cutting.{place, last, Led, Fed};
 
 use crate::script::Script;
-use frame::Line;
+use frame::{KEPT, Line};
 use memchr::memchr;
 use std::io;
 
@@ -14,6 +14,13 @@ pub fn line_end(bytes: &[u8]) -> Option<usize>
     ensures within { IfSome result (λ n. n < length bytes.now) }
 {
     memchr(b'\n', bytes)
+}
+
+// What a script is handed of a line.
+fn front(line: &[u8]) -> &[u8]
+    ensures result { result.now ≡ cut line.now }
+{
+    &line[..line.len().min(KEPT)]
 }
 
 // What takes the lines of a script, with what has been read of the next line.
@@ -44,6 +51,10 @@ impl<'a, S: Script> Cutter<'a, S> {
         ensures heard { OnOk result (S.Script.hears self.old.script.now (cut (kept self.old.line ++ end.now)) self.new.script.now) }
         ensures after { OnOk result (kept self.new.line ≡ []) }
     {
+        if self.line.as_slice().is_empty() {
+            // The line lies whole in the piece, and is not copied.
+            return self.script.line(front(end));
+        }
         self.line.extend(end);
         self.script.line(self.line.as_slice())?;
         self.line.clear();

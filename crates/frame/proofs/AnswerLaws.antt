@@ -15,7 +15,7 @@ use Rattle.frame.specs.Fault.{values_of}
 use Rattle.frame.specs.Answer.{be8, total_bytes, told_bytes, reply_bytes}
 use Rattle.frame.proofs.DigitsLaws.{length_written}
 
-length_totals : (t : Totals) → length (total_bytes t) ≡ 57
+pub length_totals : (t : Totals) → length (total_bytes t) ≡ 57
 unfolding be8
 length_totals t = refl
 
@@ -49,7 +49,7 @@ length_told (Settled lost) = omega arith
 length_told (Ticked loss intake) = omega arith
 length_told (Audited t) = let e = length_totals t in omega arith
 
-length_reply : (r : Result Answer FrameFault) → length (reply_bytes r) ≤ 57
+pub length_reply : (r : Result Answer FrameFault) → length (reply_bytes r) ≤ 57
 length_reply (Ok a) = length_told a
 length_reply (Err f) = let e = length_fault f in omega arith
 

@@ -1,12 +1,12 @@
 -- What one turn of the loops over digits does to the lists, and over-long lines. Assumes nothing.
-use Rattle.std.proofs.Common.{◌≡◌, ℕ, ◌+◌, ◌-◌, ◌*◌, ◌/◌, ◌%◌, ◌<◌, ◌≤◌, cond, eqb, ltb, List, [], ◌∷◌, ◌++◌, length, get_or, take, drop, set, Ok, Err, Result, sym, refl, ap, ◌∙◌, inl, inr, append_assoc, arith, length-append}
+use Rattle.std.proofs.Common.{◌≡◌, ℕ, ◌+◌, ◌-◌, ◌*◌, ◌/◌, ◌%◌, ◌<◌, ◌≤◌, cond, eqb, ltb, List, [], ◌∷◌, ◌++◌, length, get_or, take, drop, set, Ok, Err, Result, sym, refl, ap, ◌∙◌, inl, inr, append_assoc, append-nil, arith, length-append}
 use lib.Seq.{set_at}
 use Rattle.std.proofs.lemmas.List.{drop_more, take_more, length-take-le, take_all, take_rest}
 use Rattle.std.proofs.lemmas.Bool.Decides.{nat_tests, leb_tells}
 use Rattle.frame.specs.declared.fault.FrameFault.{FrameFault}
 use Rattle.frame.specs.declared.fault.FrameFault.TheVariants.{BadLine}
 use Rattle.frame.specs.Prefix.{cut}
-use Rattle.frame.specs.Digits.{digit_of, digits_of, with_byte, written, over_front, value_of, joined, bytes_of, line_of}
+use Rattle.frame.specs.Digits.{digit_of, digits_of, with_byte, with_bytes, written, over_front, value_of, told_value, joined, bytes_of, line_of}
 
 -- bytes in front of those still to be read
 abbrev pub prepend : List ℕ → Result (List ℕ) FrameFault → Result (List ℕ) FrameFault
@@ -23,6 +23,13 @@ prepend_joined :
 prepend_joined xs h l (Err e) = refl
 prepend_joined xs h l (Ok ys) = ap (λ t. Ok t) (sym (append_assoc xs ((h * 16 + l) ∷ []) ys))
 
+digit_told : (n : ℕ) → n ≤ 15 → told_value n ≡ Ok n
+digit_told n h = grind (arith, nat_tests)
+
+-- what is told of a digit is its value, where that is one
+digit_is : (d n : ℕ) → value_of d ≡ told_value n → n ≤ 15 → value_of d ≡ Ok n
+digit_is d n e h = e ∙ digit_told n h
+
 prepend_two :
     (xs t all : List ℕ) (a b h l : ℕ) → prepend xs (bytes_of (a ∷ b ∷ t)) ≡ bytes_of all → value_of a ≡ Ok h
     → value_of b ≡ Ok l → prepend (xs ++ (h * 16 + l) ∷ []) (bytes_of t) ≡ bytes_of all
@@ -35,12 +42,12 @@ prepend_two xs t all a b h l e ea eb =
 -- one turn: two digits less to read, and their byte more
 pub prepend_more :
     (xs ys rest all : List ℕ) (h l : ℕ) → prepend xs (bytes_of rest) ≡ bytes_of all
-    → value_of (get_or rest 0 0) ≡ Ok h → value_of (get_or rest 1 0) ≡ Ok l → 2 ≤ length rest
+    → value_of (get_or rest 0 0) ≡ told_value h → value_of (get_or rest 1 0) ≡ told_value l → h ≤ 15 → l ≤ 15 → 2 ≤ length rest
     → ys ≡ xs ++ (h * 16 + l) ∷ [] → prepend ys (bytes_of (take (length rest - 2) (drop 2 rest))) ≡ bytes_of all
-prepend_more xs ys [] all h l e ea eb two more = absurd (omega arith)
-prepend_more xs ys (a ∷ []) all h l e ea eb two more = absurd (omega arith)
-prepend_more xs ys (a ∷ b ∷ t) all h l e ea eb two more =
-    rw take_rest (ap (λ q. prepend q (bytes_of t)) more ∙ prepend_two xs t all a b h l e ea eb)
+prepend_more xs ys [] all h l e ea eb hh hl two more = absurd (omega arith)
+prepend_more xs ys (a ∷ []) all h l e ea eb hh hl two more = absurd (omega arith)
+prepend_more xs ys (a ∷ b ∷ t) all h l e ea eb hh hl two more =
+    rw take_rest (ap (λ q. prepend q (bytes_of t)) more ∙ prepend_two xs t all a b h l e (digit_is a h ea hh) (digit_is b l eb hl))
 
 over_long :
     (n : ℕ) (r : Result (List ℕ) FrameFault) → 80 < n
@@ -74,12 +81,6 @@ set_over p out n x e h =
     ∙ set_at p (get_or out n 0) (drop (n + 1) out) x n e
     ∙ sym (append_assoc p (x ∷ []) (drop (n + 1) out))
 
-digits_of_append :
-    (bs : List ℕ) (b : ℕ)
-    → digits_of (bs ++ b ∷ []) ≡ (digits_of bs ++ digit_of (b / 16) ∷ []) ++ digit_of (b % 16) ∷ []
-digits_of_append [] b = refl
-digits_of_append (a ∷ bs) b = ap (λ t. digit_of (a / 16) ∷ digit_of (a % 16) ∷ t) (digits_of_append bs b)
-
 length_digits_of : (bs : List ℕ) → length (digits_of bs) ≡ 2 * length bs
 length_digits_of [] = refl
 length_digits_of (a ∷ bs) = let e = length_digits_of bs in omega arith
@@ -87,30 +88,33 @@ length_digits_of (a ∷ bs) = let e = length_digits_of bs in omega arith
 pub length_written : (bs : List ℕ) → length (written bs) ≡ 2 * length bs + 1
 length_written bs = length-append (digits_of bs) (10 ∷ []) ∙ ap (λ n. n + 1) (length_digits_of bs)
 
--- the digits of one byte more
-pub over_front_more :
-    (bs out : List ℕ) (i : ℕ) → i < length bs → 2 * length bs + 1 ≤ length out
-    → with_byte (2 * i) (get_or bs i 0) (digits_of (take i bs) ++ drop (2 * i) out) ≡ digits_of (take (i + 1) bs) ++ drop (2 * (i + 1)) out
-over_front_more bs out i h room =
-    let p : List ℕ = digits_of (take i bs) in
-    let b : ℕ = get_or bs i 0 in
-    let lp : length p ≡ 2 * i = length_digits_of (take i bs) ∙ ap (λ n. 2 * n) (length-take-le i bs (omega arith)) in
-    let lq : length (p ++ digit_of (b / 16) ∷ []) ≡ 2 * i + 1 = length-append p (digit_of (b / 16) ∷ []) ∙ ap (λ n. n + 1) lp in
-    let e : 2 * i + 1 + 1 ≡ 2 * (i + 1) = omega arith in
-    ap (λ t. set t (2 * i + 1) (digit_of (b % 16))) (set_over p out (2 * i) (digit_of (b / 16)) lp (omega arith))
-    ∙ set_over (p ++ digit_of (b / 16) ∷ []) out (2 * i + 1) (digit_of (b % 16)) lq (omega arith)
-    ∙ ap (λ n. ((p ++ digit_of (b / 16) ∷ []) ++ digit_of (b % 16) ∷ []) ++ drop n out) e
-    ∙ ap (λ t. t ++ drop (2 * (i + 1)) out) (sym (ap digits_of (take_more bs i 0 h) ∙ digits_of_append (take i bs) b))
+-- the digits of more bytes, behind those of p
+behind :
+    (bs p out : List ℕ) (n : ℕ) → length p ≡ n → n + 2 * length bs ≤ length out
+    → with_bytes n bs (p ++ drop n out) ≡ (p ++ digits_of bs) ++ drop (n + 2 * length bs) out
+behind [] p out n e room = ap (λ q. q ++ drop n out) (sym (append-nil p)) ∙ ap (λ k. (p ++ []) ++ drop k out) (omega arith)
+behind (b ∷ bs) p out n e room =
+    let q : List ℕ = p ++ digit_of (b / 16) ∷ [] in
+    let r : List ℕ = q ++ digit_of (b % 16) ∷ [] in
+    let lq : length q ≡ n + 1 = length-append p (digit_of (b / 16) ∷ []) ∙ ap (λ k. k + 1) e in
+    let lr : length r ≡ n + 2 = length-append q (digit_of (b % 16) ∷ []) ∙ ap (λ k. k + 1) lq ∙ omega arith in
+    let two : n + 1 + 1 ≡ n + 2 = omega arith in
+    ap (λ t. with_bytes (n + 2) bs (set t (n + 1) (digit_of (b % 16)))) (set_over p out n (digit_of (b / 16)) e (omega arith))
+    ∙ ap (with_bytes (n + 2) bs) (set_over q out (n + 1) (digit_of (b % 16)) lq (omega arith))
+    ∙ ap (λ k. with_bytes (n + 2) bs (r ++ drop k out)) two
+    ∙ behind bs r out (n + 2) lr (omega arith)
+    ∙ ap (λ t. t ++ drop (n + 2 + 2 * length bs) out) (append_assoc q (digit_of (b % 16) ∷ []) (digits_of bs) ∙ append_assoc p (digit_of (b / 16) ∷ []) (digit_of (b % 16) ∷ digits_of bs))
+    ∙ ap (λ k. (p ++ digits_of (b ∷ bs)) ++ drop k out) (omega arith)
 
--- the line feed after the digits of all bytes
-pub over_front_end :
-    (bs out now : List ℕ) (i : ℕ) → length bs ≤ i → i ≤ length bs → 2 * length bs + 1 ≤ length out
-    → now ≡ digits_of (take i bs) ++ drop (2 * i) out
-    → set now (2 * length bs) 10 ≡ over_front (written bs) out
-over_front_end bs out now i past le room e =
-    let ei : i ≡ length bs = omega arith in
-    let all : now ≡ digits_of bs ++ drop (2 * length bs) out =
-    e ∙ ap (λ t. digits_of t ++ drop (2 * i) out) (take_all i bs past) ∙ ap (λ n. digits_of bs ++ drop (2 * n) out) ei in
-    ap (λ t. set t (2 * length bs) 10) all
-    ∙ set_over (digits_of bs) out (2 * length bs) 10 (length_digits_of bs) (omega arith)
-    ∙ ap (λ n. written bs ++ drop n out) (sym (length_written bs))
+-- the line feed behind the digits of some bytes
+pub line_written :
+    (bs out now : List ℕ) (n : ℕ) → n ≡ 2 * length bs → now ≡ with_bytes 0 bs out → n < length out
+    → set now n 10 ≡ over_front (written bs) out
+line_written bs out now n e is room =
+    let zero-more : 0 + 2 * length bs ≡ 2 * length bs = omega arith in
+    let front : with_bytes 0 bs out ≡ digits_of bs ++ drop (2 * length bs) out = behind bs [] out 0 refl (omega arith) ∙ ap (λ k. digits_of bs ++ drop k out) zero-more in
+    let len : length (digits_of bs) ≡ n = length_digits_of bs ∙ sym e in
+    let more : n + 1 ≡ length (written bs) = ap (λ k. k + 1) e ∙ sym (length_written bs) in
+    ap (λ t. set t n 10) (is ∙ front ∙ ap (λ k. digits_of bs ++ drop k out) (sym e))
+    ∙ set_over (digits_of bs) out n 10 len room
+    ∙ ap (λ k. written bs ++ drop k out) more

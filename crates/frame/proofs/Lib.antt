@@ -1,3 +1,4 @@
 pub mod PrefixLaws
+pub mod TableLaws
 pub mod DigitsLaws
 pub mod AnswerLaws

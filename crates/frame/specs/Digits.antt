@@ -3,9 +3,11 @@
 --     joined h l bs         the byte of the digits whose values are h and l, in front of the bytes bs
 --     bytes_of ds           the bytes that the digits ds stand for
 --     line_of ds            the same, where ds are 2 to 80 digits
+--     told_value n          what n tells of a digit: its value, or that it is none
 --     digit_of n            the digit of the value n
 --     digits_of bs          the digits of the bytes bs
 --     with_byte i b out     the array out with the digits of the byte b at the places i and i + 1
+--     with_bytes i bs out   the array out with the digits of the bytes bs from place i on
 --     written bs            the line of bs: its digits and a line feed
 --     over_front ws out     the array out with ws written over its front
 use Rattle.std.specs.Prelude.{ℕ, ◌+◌, ◌-◌, ◌*◌, ◌/◌, ◌%◌, cond, List, [], ◌∷◌, ◌++◌, length, drop, Ok, Err, Result, ◌==◌, nat_le, nat_lt, slice_set}
@@ -18,6 +20,9 @@ value_of b =
     cond (nat_le 48 b)
     (cond (nat_le b 57) (Ok (b - 48)) (cond (nat_le 65 b) (cond (nat_le b 70) (Ok (b - 55)) (Err BadLine)) (Err BadLine)))
     (Err BadLine)
+
+abbrev pub told_value : ℕ → Result ℕ FrameFault
+told_value n = cond (nat_lt n 16) (Ok n) (Err BadLine)
 
 abbrev pub joined : Result ℕ FrameFault → Result ℕ FrameFault → Result (List ℕ) FrameFault → Result (List ℕ) FrameFault
 joined (Err e) l bs = Err e
@@ -42,6 +47,10 @@ digits_of (b ∷ bs) = digit_of (b / 16) ∷ digit_of (b % 16) ∷ digits_of bs
 
 abbrev pub with_byte : ℕ → ℕ → List ℕ → List ℕ
 with_byte i b out = slice_set (slice_set out i (digit_of (b / 16))) (i + 1) (digit_of (b % 16))
+
+abbrev pub with_bytes : ℕ → List ℕ → List ℕ → List ℕ
+with_bytes i [] out = out
+with_bytes i (b ∷ bs) out = with_bytes (i + 2) bs (with_byte i b out)
 
 abbrev pub written : List ℕ → List ℕ
 written bs = digits_of bs ++ 10 ∷ []

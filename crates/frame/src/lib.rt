@@ -11,4 +11,4 @@ pub use answer::{Answer, ROOM, write_answer};
 pub use digits::decode;
 pub use fault::FrameFault;
 pub use frame::Frame;
-pub use prefix::{Bytes, Line, Prefix};
+pub use prefix::{Bytes, KEPT, Line, Prefix};

@@ -11,8 +11,11 @@ pub struct Prefix<const N: usize> {
     ghost within: { len ≤ N },
 }
 
-// A line as it is read: with 81 bytes it is over-long, whatever follows.
-pub type Line = Prefix<81>;
+// What is kept of a line: with so many bytes it is over-long, whatever follows.
+pub const KEPT: usize = 81;
 
-// The bytes of a frame, at most 40, or of an answer, at most a 0 and seven totals of 8 bytes each.
-pub type Bytes = Prefix<57>;
+// A line as it is read.
+pub type Line = Prefix<KEPT>;
+
+// The bytes of a line of at most 80 digits.
+pub type Bytes = Prefix<40>;

@@ -66,16 +66,26 @@ impl Simulator {
         Simulator::Empty
     }
 
+    // What a frame is answered before a node stands. It stays a call: a function's variables are cleared as it begins,
+    // and those of a new node are large.
+    #[cold]
+    #[inline(never)]
+    fn begin(&mut self, frame: Frame) -> Result<Answer, FrameFault>
+        requires { self.old ≡ Nothing }
+        ensures serves { Serves Nothing frame result self.new }
+        ensures same { SameIfRefused result self.old self.new }
+    {
+        *self = build(frame)?;
+        Ok(Answer::Done)
+    }
+
     fn serve(&mut self, frame: Frame) -> Result<Answer, FrameFault>
         ensures run { Reached self.old → Reached self.new }
         ensures serves { Serves self.old frame result self.new }
         ensures same { Reached self.old → SameIfRefused result self.old self.new }
     {
         match self {
-            Simulator::Empty => {
-                *self = build(frame)?;
-                Ok(Answer::Done)
-            }
+            Simulator::Empty => self.begin(frame),
             Simulator::Single(node) => serve(node, frame),
             Simulator::Layered(node) => serve(node, frame),
             Simulator::Cells(node) => serve(node, frame),

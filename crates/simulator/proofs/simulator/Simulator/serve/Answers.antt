@@ -1,16 +1,14 @@
-use Rattle.std.proofs.Common.{refl, Ok, rules}
+use Rattle.std.proofs.Common.{refl}
 use Rattle.store.specs.Capacitor.{capacitor_store}
 use Rattle.store.specs.Bank.{bank_store}
-use Rattle.frame.specs.declared.answer.Answer.TheVariants.{Done}
-use Rattle.simulator.specs.declared.simulator.Simulator.TheVariants.{Single, Layered, Cells}
-use Rattle.simulator.specs.Simulator.{layered_store, Serves}
+use Rattle.simulator.specs.declared.simulator.Simulator.TheVariants.{Empty, Single, Layered, Cells}
+use Rattle.simulator.specs.Simulator.{layered_store}
 use Rattle.simulator.proofs.Reach.{served, reached_sound, same_node}
 use Rattle.simulator.proofs.simulator.Simulator.serve.Goals as goal
 
-pub returns-in_ok-self-in-Empty-clause-run : goal.returns-in_ok-self-in-Empty-clause-run
-returns-in_ok-self-in-Empty-clause-run c =
-    let stands : Serves c.args.self.now c.args.frame (Ok Done) c.in_ok-self-in-Empty.field-0 = search rules in
-    served c.args.self.now c.args.frame (Ok Done) c.in_ok-self-in-Empty.field-0 stands
+pub returns-in-Empty-clause-run : goal.returns-in-Empty-clause-run
+returns-in-Empty-clause-run c =
+    rw c.in-Empty.is (served Empty c.args.frame c.begin.result c.begin.new.self c.begin.ensures.serves)
 
 pub returns-in-Single : goal.returns-in-Single
 returns-in-Single c = rw c.in-Single.is (record {

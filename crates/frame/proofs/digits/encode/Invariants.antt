@@ -1,6 +1,0 @@
-use Rattle.std.proofs.Common.{◌≡◌, ◌*◌, ◌++◌, take, drop}
-use Rattle.frame.specs.Digits.{digits_of}
-use Rattle.frame.proofs.digits.encode.Given as goal
-
-abbrev pub invariant-loop-i : goal.invariant-loop-i
-invariant-loop-i l = l.out ≡ digits_of (take l.i l.bytes) ++ drop (2 * l.i) l.initial.out
