@@ -1,7 +1,9 @@
 -- Laws of the grants.
-use Rattle.std.proofs.Common.{◌≡◌, ℕ, zero, suc, ◌+◌, ◌<◌, ◌≤◌, Bool, true, false, cond, not, eqb, List, [], ◌∷◌, ◌++◌, length, get_or, set, Some, None, Option, sym, refl, ap, ◌∙◌, subst, arith, eq-eqb, eqb-true}
+use Rattle.std.proofs.Common.{◌≡◌, ℕ, zero, suc, ◌+◌, ◌-◌, ◌<◌, ◌≤◌, Bool, true, false, cond, not, eqb, List, [], ◌∷◌, ◌++◌, length, get_or, take, drop, set, Some, None, Option, sym, refl, ap, ◌∙◌, subst, arith, eq-eqb, eqb-true}
 use Rattle.std.specs.Option.{option_map, option_or}
-use Rattle.std.specs.List.{remove, slice_get, position, position_or_len}
+use Rattle.std.specs.List.{remove, copy_within, slice_get, position, position_or_len}
+use Rattle.std.proofs.Math.Seq.{take-paste}
+use Rattle.std.proofs.lemmas.List.{take_all, length-drop}
 use Rattle.std.proofs.lemmas.Option.{none-some, same_Some}
 use Rattle.std.proofs.lemmas.Bool.{ne_eqb, ltb-true, ltb-false}
 use Rattle.tables.specs.declared.grant.Grant.{Grant}
@@ -48,6 +50,17 @@ module _ (s high : ℕ) where
 pub or_nothing : (o : Option Grant) → option_or o None ≡ o
 or_nothing None = refl
 or_nothing (Some g) = refl
+
+-- those after a place move down by one, and the last is dropped
+pub moved_down : (gs : List Grant) (i : ℕ) → i < length gs → take (length gs - 1) (copy_within gs (i + 1) (length gs) i) ≡ remove gs i
+moved_down gs i lt =
+    let n : ℕ = length gs - (i + 1) in
+    let count : length gs - 1 ≡ i + n = omega (arith, lt) in
+    let all : length (drop (i + 1) gs) ≤ n = omega (arith, length-drop (i + 1) gs) in
+    let next : i + 1 ≡ suc i = omega arith in
+    ap (λ k. take k (copy_within gs (i + 1) (length gs) i)) count
+    ∙ take-paste gs i (drop (i + 1) gs) n (omega (arith, lt)) (omega (arith, length-drop (i + 1) gs, lt))
+    ∙ ap (λ xs. take i gs ++ xs) (take_all n (drop (i + 1) gs) all) ∙ ap (λ k. take i gs ++ drop k gs) next
 
 -- the place of the grant with this serial
 abbrev pub place_of : ℕ → List Grant → ℕ

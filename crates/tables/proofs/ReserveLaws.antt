@@ -1,7 +1,7 @@
 -- Laws of the reserves.
-use Rattle.std.proofs.Common.{◌≡◌, ℕ, zero, suc, ◌-◌, ◌<◌, min, [], ◌∷◌, Some, None, Option, refl, ap, ◌∙◌, arith}
+use Rattle.std.proofs.Common.{◌≡◌, ℕ, zero, suc, ◌+◌, ◌-◌, ◌<◌, ◌≤◌, min, [], ◌∷◌, Some, None, Option, refl, ap, ◌∙◌, arith}
 use Rattle.tables.specs.declared.reserves.Reserve.{Reserve}
-use Rattle.tables.specs.Reserves.{ReserveRows, level_in, level_at, relevel, lower, down_from, charge_in_turn, charge_loss}
+use Rattle.tables.specs.Reserves.{ReserveRows, level_in, level_at, relevel, give, lower, down_from, charge_in_turn, charge_loss}
 
 -- a loss taken from the reserves n down to 1
 unfoldable pub charge_down : ℕ → ℕ → ReserveRows → ReserveRows
@@ -26,6 +26,16 @@ pub lower_none : (rs : ReserveRows) (i : ℕ) → lower rs i 0 ≡ rs
 lower_none [] i = refl
 lower_none (r ∷ rs) zero = ap (λ o. o ∷ rs) (ap (λ v. relevel v r) (let e : level_in r - 0 ≡ level_in r = omega arith in e) ∙ level_same r)
 lower_none (r ∷ rs) (suc i) = ap (λ xs. r ∷ xs) (lower_none rs i)
+
+-- what is moved from a reserve to itself leaves all as it was
+pub moved_back : (rs : ReserveRows) (i q : ℕ) → q ≤ level_at rs i → give (lower rs i q) i q ≡ rs
+moved_back [] i q le = refl
+moved_back (r ∷ rs) zero q le = ap (λ o. o ∷ rs) (back r le)
+  where
+    back : (o : Option Reserve) → q ≤ level_in o → relevel (level_in (relevel (level_in o - q) o) + q) (relevel (level_in o - q) o) ≡ o
+    back None le = refl
+    back (Some x) le = ap (λ v. relevel v (Some x)) (let e : x.level - q + q ≡ x.level = omega (arith, le) in e)
+moved_back (r ∷ rs) (suc i) q le = ap (λ xs. r ∷ xs) (moved_back rs i q le)
 
 pub charge_down_nothing : (n q : ℕ) (rs : ReserveRows) → q ≡ 0 → charge_down n q rs ≡ rs
 unfolding charge_down

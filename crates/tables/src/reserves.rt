@@ -1,6 +1,6 @@
 // The reserves of a node, by number: 0 is the root.
 ghost use Rattle.std.specs.Prelude.{◌≡◌, ◌+◌, ◌-◌, min, Some, None, slice_index_or, slice_set};
-ghost use Rattle.tables.specs.Reserves.{first_reserves, level_at, headroom, relevel, lower, fill, fill_up, charge_loss, parent_is, is_parent};
+ghost use Rattle.tables.specs.Reserves.{first_reserves, level_at, headroom, relevel, put_level, lower, fill, fill_up, charge_loss, parent_is, is_parent};
 
 use crate::table::Table;
 use rates::G;
@@ -75,6 +75,13 @@ impl Table<Reserve, RESERVES> {
         };
         reserves.open(ROOT, root);
         reserves
+    }
+
+    // Another level at an open reserve, whose row this is.
+    pub(crate) fn relevel(&mut self, i: u8, row: Reserve, level: u32)
+        ensures after { slice_index_or self.old.rows i None ≡ Some row → self.new.rows ≡ put_level self.old.rows i level }
+    {
+        self.replace(usize::from(i), Reserve { level, ..row });
     }
 
     // q less at an open reserve, or as much of it as is there.

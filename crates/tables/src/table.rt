@@ -51,7 +51,7 @@ impl<T: Copy, const N: usize> Table<T, N> {
     pub fn end(&self) -> usize
         ensures result { result ≡ self.now.end }
     {
-        self.end
+        self.end.min(N)
     }
 
     pub fn get(&self, i: u8) -> Option<T>

@@ -48,12 +48,17 @@ fn carry(reserves: &mut Reserves, source: u8, sink: u8, due: u32) -> u32
     ensures result { result ≡ min due (min (level_at reserves.old.rows source) (headroom reserves.old.rows sink)) }
     ensures after { reserves.new.rows ≡ give (lower reserves.old.rows source result) sink result }
 {
-    let (Some(from), Some(to)) = (reserves.get(source), reserves.get(sink)) else {
+    let Some(from) = reserves.get(source) else {
         return 0;
     };
-    let moved = due.min(from.level.min(to.headroom()));
-    reserves.lower(source, moved);
-    let _ = reserves.fill(sink, moved);
+    let Some(to) = reserves.get(sink) else {
+        return 0;
+    };
+    let moved = due.min(from.level).min(to.headroom());
+    if source != sink {
+        reserves.relevel(source, from, from.level - moved);
+        reserves.relevel(sink, to, to.level + moved);
+    }
     moved
 }
 

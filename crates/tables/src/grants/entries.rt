@@ -77,9 +77,12 @@ impl Grants {
         ensures after { open_in self.new ≡ without serial (open_in self.old) }
         ensures serials { self.new.serials ≡ self.old.serials }
     {
-        if let Some(place) = self.place(serial) {
-            let _ = self.rows.pop_at(place);
-        }
+        let Some(place) = self.place(serial) else {
+            return;
+        };
+        let rows = self.rows.as_mut_slice();
+        rows.copy_within(place + 1.., place);
+        let _ = self.rows.pop();
     }
 
     // The grant with this serial is parked, or is out.
