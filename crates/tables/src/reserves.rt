@@ -1,6 +1,6 @@
 // The reserves of a node, by number: 0 is the root.
 ghost use Rattle.std.specs.Prelude.{◌≡◌, ◌+◌, ◌-◌, min, Some, None, slice_index_or, slice_set};
-ghost use Rattle.tables.specs.Reserves.{first_reserves, level_at, headroom, relevel, put_level, lower, fill, fill_up, charge_loss, parent_is, is_parent};
+ghost use Rattle.tables.specs.Reserves.{first_reserves, level_at, headroom, put_level, lower, fill, fill_up, charge_loss, parent_is, is_parent};
 
 use crate::table::Table;
 use rates::G;
@@ -31,27 +31,6 @@ impl Reserve {
     {
         self.limit.saturating_sub(self.level)
     }
-
-    // The same with q less, or with nothing.
-    fn lowered(self, q: u32) -> Reserve
-        ensures result { Some result ≡ relevel (self.level - q) (Some self) }
-    {
-        Reserve {
-            level: self.level.saturating_sub(q),
-            ..self
-        }
-    }
-
-    // The same with q more, or with as much of it as it can take.
-    fn filled(self, q: u32) -> Reserve
-        ensures result { Some result ≡ relevel (self.level + min q (self.limit - self.level)) (Some self) }
-    {
-        let taken = q.min(self.headroom());
-        Reserve {
-            level: self.level + taken,
-            ..self
-        }
-    }
 }
 
 // The row is that of a reserve with this parent.
@@ -77,11 +56,15 @@ impl Table<Reserve, RESERVES> {
         reserves
     }
 
-    // Another level at an open reserve, whose row this is.
-    pub(crate) fn relevel(&mut self, i: u8, row: Reserve, level: u32)
-        ensures after { slice_index_or self.old.rows i None ≡ Some row → self.new.rows ≡ put_level self.old.rows i level }
+    // Another level at an open reserve.
+    pub(crate) fn relevel(&mut self, i: usize, level: u32)
+        ensures after { self.new.rows ≡ put_level self.old.rows i level }
     {
-        self.replace(usize::from(i), Reserve { level, ..row });
+        if i < RESERVES {
+            if let Some(row) = &mut self.rows[i] {
+                row.level = level;
+            }
+        }
     }
 
     // q less at an open reserve, or as much of it as is there.
@@ -89,7 +72,7 @@ impl Table<Reserve, RESERVES> {
         ensures after { self.new.rows ≡ lower self.old.rows i q }
     {
         if let Some(row) = self.get(i) {
-            self.replace(usize::from(i), row.lowered(q));
+            self.relevel(usize::from(i), row.level.saturating_sub(q));
         }
     }
 
@@ -101,8 +84,9 @@ impl Table<Reserve, RESERVES> {
         let Some(row) = self.get(i) else {
             return q;
         };
-        self.replace(usize::from(i), row.filled(q));
-        q.saturating_sub(row.headroom())
+        let taken = q.min(row.headroom());
+        self.relevel(usize::from(i), row.level + taken);
+        q - taken
     }
 
     // q more at a reserve, and what is over at the root.
@@ -121,8 +105,9 @@ impl Table<Reserve, RESERVES> {
         let Some(row) = self.at(i) else {
             return q;
         };
-        self.replace(i, row.lowered(q.min(row.level)));
-        q.saturating_sub(row.level)
+        let taken = q.min(row.level);
+        self.relevel(i, row.level - taken);
+        q - taken
     }
 
     // A loss, taken from the root first, then from the last reserve down to reserve 1. The rules fix this order, and a

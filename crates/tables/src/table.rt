@@ -42,8 +42,10 @@ impl<T: Copy, const N: usize> Table<T, N> {
     pub(crate) fn replace(&mut self, i: usize, row: T)
         ensures after { self.new.rows ≡ cond (present self.old.rows i) (slice_set self.old.rows i (Some row)) self.old.rows }
     {
-        if i < self.rows.len() && self.rows[i].is_some() {
-            self.rows[i] = Some(row);
+        if i < self.rows.len() {
+            if let Some(there) = &mut self.rows[i] {
+                *there = row;
+            }
         }
     }
 

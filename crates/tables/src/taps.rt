@@ -56,8 +56,8 @@ fn carry(reserves: &mut Reserves, source: u8, sink: u8, due: u32) -> u32
     };
     let moved = due.min(from.level).min(to.headroom());
     if source != sink {
-        reserves.relevel(source, from, from.level - moved);
-        reserves.relevel(sink, to, to.level + moved);
+        reserves.relevel(usize::from(source), from.level - moved);
+        reserves.relevel(usize::from(sink), to.level + moved);
     }
     moved
 }
