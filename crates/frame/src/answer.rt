@@ -56,10 +56,10 @@ fn put_eight(out: &mut [u8], at: usize, n: u64)
 }
 
 // Writes the digits of a node's refusal, which are those of its number and of the values told with it, and tells how many they are.
-fn put_denial(out: &mut [u8], denial: &Denial) -> usize
+fn put_denial(out: &mut [u8], denial: Denial) -> usize
     requires { 160 ≤ length out.old }
-    ensures result { result ≡ 2 * length (denial_number denial.now ∷ denial_values denial.now) }
-    ensures after { out.new ≡ with_bytes 0 (denial_number denial.now ∷ denial_values denial.now) out.old }
+    ensures result { result ≡ 2 * length (denial_number denial ∷ denial_values denial) }
+    ensures after { out.new ≡ with_bytes 0 (denial_number denial ∷ denial_values denial) out.old }
 {
     put_byte(out, 0, denial.number());
     match denial {
@@ -68,9 +68,9 @@ fn put_denial(out: &mut [u8], denial: &Denial) -> usize
             reserve,
             deficit,
         } => {
-            put_byte(out, 2, *task);
-            put_byte(out, 4, *reserve);
-            put_four(out, 6, *deficit);
+            put_byte(out, 2, task);
+            put_byte(out, 4, reserve);
+            put_four(out, 6, deficit);
             14
         }
         Denial::StoreRefused(overdraw) => {
@@ -86,10 +86,10 @@ fn put_denial(out: &mut [u8], denial: &Denial) -> usize
 }
 
 // The same of a refusal.
-fn put_fault(out: &mut [u8], fault: &FrameFault) -> usize
+fn put_fault(out: &mut [u8], fault: FrameFault) -> usize
     requires { 160 ≤ length out.old }
-    ensures result { result ≡ 2 * length (number_of fault.now ∷ values_of fault.now) }
-    ensures after { out.new ≡ with_bytes 0 (number_of fault.now ∷ values_of fault.now) out.old }
+    ensures result { result ≡ 2 * length (number_of fault ∷ values_of fault) }
+    ensures after { out.new ≡ with_bytes 0 (number_of fault ∷ values_of fault) out.old }
 {
     match fault {
         FrameFault::Denied(denial) => put_denial(out, denial),
@@ -101,10 +101,10 @@ fn put_fault(out: &mut [u8], fault: &FrameFault) -> usize
 }
 
 // Writes the digits of an audit's answer, 0 and the seven totals, and tells how many they are.
-fn put_totals(out: &mut [u8], totals: &Totals) -> usize
+fn put_totals(out: &mut [u8], totals: Totals) -> usize
     requires { 160 ≤ length out.old }
-    ensures result { result ≡ 2 * length (total_bytes totals.now) }
-    ensures after { out.new ≡ with_bytes 0 (total_bytes totals.now) out.old }
+    ensures result { result ≡ 2 * length (total_bytes totals) }
+    ensures after { out.new ≡ with_bytes 0 (total_bytes totals) out.old }
 {
     put_byte(out, 0, 0);
     put_eight(out, 2, totals.received);
@@ -118,10 +118,10 @@ fn put_totals(out: &mut [u8], totals: &Totals) -> usize
 }
 
 // Writes the digits of what an accepted frame is answered, 0 and what is told, and tells how many they are.
-fn put_answer(out: &mut [u8], answer: &Answer) -> usize
+fn put_answer(out: &mut [u8], answer: Answer) -> usize
     requires { 160 ≤ length out.old }
-    ensures result { result ≡ 2 * length (told_bytes answer.now) }
-    ensures after { out.new ≡ with_bytes 0 (told_bytes answer.now) out.old }
+    ensures result { result ≡ 2 * length (told_bytes answer) }
+    ensures after { out.new ≡ with_bytes 0 (told_bytes answer) out.old }
 {
     match answer {
         Answer::Done => {
@@ -130,13 +130,13 @@ fn put_answer(out: &mut [u8], answer: &Answer) -> usize
         }
         Answer::Granted { serial: n } | Answer::Settled { lost: n } => {
             put_byte(out, 0, 0);
-            put_four(out, 2, *n);
+            put_four(out, 2, n);
             10
         }
         Answer::Ticked { loss, intake } => {
             put_byte(out, 0, 0);
-            put_four(out, 2, *loss);
-            put_four(out, 10, *intake);
+            put_four(out, 2, loss);
+            put_four(out, 10, intake);
             18
         }
         Answer::Audited(totals) => put_totals(out, totals),
@@ -144,10 +144,10 @@ fn put_answer(out: &mut [u8], answer: &Answer) -> usize
 }
 
 // The same of an answer or a refusal.
-fn put_reply(out: &mut [u8], reply: &Result<Answer, FrameFault>) -> usize
+fn put_reply(out: &mut [u8], reply: Result<Answer, FrameFault>) -> usize
     requires { 160 ≤ length out.old }
-    ensures result { result ≡ 2 * length (reply_bytes reply.now) }
-    ensures after { out.new ≡ with_bytes 0 (reply_bytes reply.now) out.old }
+    ensures result { result ≡ 2 * length (reply_bytes reply) }
+    ensures after { out.new ≡ with_bytes 0 (reply_bytes reply) out.old }
 {
     match reply {
         Ok(answer) => put_answer(out, answer),
@@ -163,7 +163,7 @@ pub fn write_answer(reply: Result<Answer, FrameFault>, out: &mut [u8]) -> Result
     if out.len() < ROOM {
         return Err(FrameFault::ShortAnswer);
     }
-    let end = put_reply(out, &reply);
+    let end = put_reply(out, reply);
     out[end] = b'\n';
     Ok(end + 1)
 }
