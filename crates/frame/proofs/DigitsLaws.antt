@@ -1,17 +1,16 @@
 -- What one turn of the loops over digits does to the lists, and over-long lines. Assumes nothing.
-use Rattle.std.proofs.Common.{◌≡◌, ℕ, ◌+◌, ◌-◌, ◌*◌, ◌/◌, ◌%◌, ◌<◌, ◌≤◌, cond, eqb, ltb, List, [], ◌∷◌, ◌++◌, length, get_or, take, drop, set, Ok, Err, Result, sym, refl, ap, ◌∙◌, inl, inr, append_assoc, append-nil, arith, length-append}
+use Rattle.std.proofs.Common.{◌≡◌, ℕ, zero, suc, ◌+◌, ◌-◌, ◌*◌, ◌/◌, ◌%◌, ◌<◌, ◌≤◌, cond, eqb, ltb, List, [], ◌∷◌, ◌++◌, length, get_or, take, drop, set, Ok, Err, Result, sym, refl, ap, ◌∙◌, inl, inr, append_assoc, append-nil, arith, length-append}
 use lib.Seq.{set_at}
+use lib.Dec.{lit<}
+use mir.Syntax.{w32}
+use Rattle.std.specs.Int.{to_be_bytes}
+use Rattle.std.proofs.lemmas.Nat.{be_bytes_4}
 use Rattle.std.proofs.lemmas.List.{drop_more, take_more, length-take-le, take_all, take_rest}
 use Rattle.std.proofs.lemmas.Bool.Decides.{nat_tests, leb_tells}
 use Rattle.frame.specs.declared.fault.FrameFault.{FrameFault}
 use Rattle.frame.specs.declared.fault.FrameFault.TheVariants.{BadLine}
 use Rattle.frame.specs.Prefix.{cut}
-use Rattle.frame.specs.Digits.{digit_of, digits_of, with_byte, with_bytes, written, over_front, value_of, told_value, joined, bytes_of, line_of}
-
--- bytes in front of those still to be read
-abbrev pub prepend : List ℕ → Result (List ℕ) FrameFault → Result (List ℕ) FrameFault
-prepend xs (Err e) = Err e
-prepend xs (Ok ys) = Ok (xs ++ ys)
+use Rattle.frame.specs.Digits.{digit_of, digits_of, with_byte, with_bytes, written, over_front, value_of, worth, prepend, joined, bytes_of, line_of}
 
 pub prepend_none : (r : Result (List ℕ) FrameFault) → prepend [] r ≡ r
 prepend_none (Err e) = refl
@@ -23,12 +22,16 @@ prepend_joined :
 prepend_joined xs h l (Err e) = refl
 prepend_joined xs h l (Ok ys) = ap (λ t. Ok t) (sym (append_assoc xs ((h * 16 + l) ∷ []) ys))
 
-digit_told : (n : ℕ) → n ≤ 15 → told_value n ≡ Ok n
-digit_told n h = grind (arith, nat_tests)
+-- a byte that is worth less than what is none is a digit, and one of 16
+digit_is : (d n : ℕ) → n ≡ worth d → n < 4294967296 → value_of d ≡ Ok n
+digit_is d n e h = value_worth (value_of d) n e h
+  where
+    value_worth : (r : Result ℕ FrameFault) (n : ℕ) → n ≡ elim r [ Ok v ↦ v | Err f ↦ 4294967296 ] → n < 4294967296 → r ≡ Ok n
+    value_worth (Ok v) n e h = ap Ok (sym e)
+    value_worth (Err f) n e h = absurd (omega arith)
 
--- what is told of a digit is its value, where that is one
-digit_is : (d n : ℕ) → value_of d ≡ told_value n → n ≤ 15 → value_of d ≡ Ok n
-digit_is d n e h = e ∙ digit_told n h
+worth_small : (d n : ℕ) → n ≡ worth d → n < 4294967296 → n ≤ 15
+worth_small d n e h = grind (arith, nat_tests)
 
 prepend_two :
     (xs t all : List ℕ) (a b h l : ℕ) → prepend xs (bytes_of (a ∷ b ∷ t)) ≡ bytes_of all → value_of a ≡ Ok h
@@ -42,12 +45,86 @@ prepend_two xs t all a b h l e ea eb =
 -- one turn: two digits less to read, and their byte more
 pub prepend_more :
     (xs ys rest all : List ℕ) (h l : ℕ) → prepend xs (bytes_of rest) ≡ bytes_of all
-    → value_of (get_or rest 0 0) ≡ told_value h → value_of (get_or rest 1 0) ≡ told_value l → h ≤ 15 → l ≤ 15 → 2 ≤ length rest
+    → h ≡ worth (get_or rest 0 0) → l ≡ worth (get_or rest 1 0) → h ≤ 15 → l ≤ 15 → 2 ≤ length rest
     → ys ≡ xs ++ (h * 16 + l) ∷ [] → prepend ys (bytes_of (take (length rest - 2) (drop 2 rest))) ≡ bytes_of all
 prepend_more xs ys [] all h l e ea eb hh hl two more = absurd (omega arith)
 prepend_more xs ys (a ∷ []) all h l e ea eb hh hl two more = absurd (omega arith)
 prepend_more xs ys (a ∷ b ∷ t) all h l e ea eb hh hl two more =
-    rw take_rest (ap (λ q. prepend q (bytes_of t)) more ∙ prepend_two xs t all a b h l e (digit_is a h ea hh) (digit_is b l eb hl))
+    rw take_rest (ap (λ q. prepend q (bytes_of t)) more ∙ prepend_two xs t all a b h l e (digit_is a h ea (omega arith)) (digit_is b l eb (omega arith)))
+
+below : (a b c d : ℕ) → a < 256 → b < 256 → c < 256 → d < 256 → (i : ℕ) → get_or (a ∷ b ∷ c ∷ d ∷ []) i 0 < 256
+below a b c d ha hb hc hd zero = ha
+below a b c d ha hb hc hd (suc zero) = hb
+below a b c d ha hb hc hd (suc (suc zero)) = hc
+below a b c d ha hb hc hd (suc (suc (suc zero))) = hd
+below a b c d ha hb hc hd (suc (suc (suc (suc i)))) = lit< tt
+
+joined_four :
+    (r : Result (List ℕ) FrameFault) (v0 v1 v2 v3 v4 v5 v6 v7 : ℕ)
+    → prepend ((v0 * 16 + v1) ∷ (v2 * 16 + v3) ∷ (v4 * 16 + v5) ∷ (v6 * 16 + v7) ∷ []) r
+    ≡ joined (Ok v0) (Ok v1) (joined (Ok v2) (Ok v3) (joined (Ok v4) (Ok v5) (joined (Ok v6) (Ok v7) r)))
+joined_four (Err e) v0 v1 v2 v3 v4 v5 v6 v7 = refl
+joined_four (Ok ys) v0 v1 v2 v3 v4 v5 v6 v7 = refl
+
+eight_digits :
+    (a b c d e f g h : ℕ) (t bs : List ℕ) (n v0 v1 v2 v3 v4 v5 v6 v7 : ℕ) → v0 ≡ worth a → v1 ≡ worth b → v2 ≡ worth c → v3 ≡ worth d → v4 ≡ worth e → v5 ≡ worth f → v6 ≡ worth g → v7 ≡ worth h
+    → n ≡ ((((((v0 * 16 + v1) * 16 + v2) * 16 + v3) * 16 + v4) * 16 + v5) * 16 + v6) * 16 + v7 → n < 4294967296 → bs ≡ to_be_bytes w32 n → prepend bs (bytes_of t) ≡ bytes_of (a ∷ b ∷ c ∷ d ∷ e ∷ f ∷ g ∷ h ∷ t)
+eight_digits a b c d e f g h t bs n v0 v1 v2 v3 v4 v5 v6 v7 e0 e1 e2 e3 e4 e5 e6 e7 is few told =
+    let k0 : v0 < 4294967296 = omega arith in
+    let s0 : v0 ≤ 15 = worth_small a v0 e0 k0 in
+    let o0 : value_of a ≡ Ok v0 = digit_is a v0 e0 k0 in
+    let k1 : v1 < 4294967296 = omega arith in
+    let s1 : v1 ≤ 15 = worth_small b v1 e1 k1 in
+    let o1 : value_of b ≡ Ok v1 = digit_is b v1 e1 k1 in
+    let k2 : v2 < 4294967296 = omega arith in
+    let s2 : v2 ≤ 15 = worth_small c v2 e2 k2 in
+    let o2 : value_of c ≡ Ok v2 = digit_is c v2 e2 k2 in
+    let k3 : v3 < 4294967296 = omega arith in
+    let s3 : v3 ≤ 15 = worth_small d v3 e3 k3 in
+    let o3 : value_of d ≡ Ok v3 = digit_is d v3 e3 k3 in
+    let k4 : v4 < 4294967296 = omega arith in
+    let s4 : v4 ≤ 15 = worth_small e v4 e4 k4 in
+    let o4 : value_of e ≡ Ok v4 = digit_is e v4 e4 k4 in
+    let k5 : v5 < 4294967296 = omega arith in
+    let s5 : v5 ≤ 15 = worth_small f v5 e5 k5 in
+    let o5 : value_of f ≡ Ok v5 = digit_is f v5 e5 k5 in
+    let k6 : v6 < 4294967296 = omega arith in
+    let s6 : v6 ≤ 15 = worth_small g v6 e6 k6 in
+    let o6 : value_of g ≡ Ok v6 = digit_is g v6 e6 k6 in
+    let k7 : v7 < 4294967296 = omega arith in
+    let s7 : v7 ≤ 15 = worth_small h v7 e7 k7 in
+    let o7 : value_of h ≡ Ok v7 = digit_is h v7 e7 k7 in
+    let all : bs ≡ (v0 * 16 + v1) ∷ (v2 * 16 + v3) ∷ (v4 * 16 + v5) ∷ (v6 * 16 + v7) ∷ [] =
+    told ∙ be_bytes_4 ((v0 * 16 + v1) ∷ (v2 * 16 + v3) ∷ (v4 * 16 + v5) ∷ (v6 * 16 + v7) ∷ []) n refl (below (v0 * 16 + v1) (v2 * 16 + v3) (v4 * 16 + v5) (v6 * 16 + v7) (omega arith) (omega arith) (omega arith) (omega arith)) (omega arith) in
+    ap (λ q. prepend q (bytes_of t)) all ∙ joined_four (bytes_of t) v0 v1 v2 v3 v4 v5 v6 v7 ∙ cc
+
+-- eight digits whose worths come to less than what is none
+pub eight_front :
+    (ds bs : List ℕ) (n v0 v1 v2 v3 v4 v5 v6 v7 : ℕ) → 8 ≤ length ds
+    → v0 ≡ worth (get_or ds 0 0) → v1 ≡ worth (get_or ds 1 0) → v2 ≡ worth (get_or ds 2 0) → v3 ≡ worth (get_or ds 3 0) → v4 ≡ worth (get_or ds 4 0) → v5 ≡ worth (get_or ds 5 0) → v6 ≡ worth (get_or ds 6 0) → v7 ≡ worth (get_or ds 7 0)
+    → n ≡ ((((((v0 * 16 + v1) * 16 + v2) * 16 + v3) * 16 + v4) * 16 + v5) * 16 + v6) * 16 + v7 → n < 4294967296 → bs ≡ to_be_bytes w32 n → prepend bs (bytes_of (drop 8 ds)) ≡ bytes_of ds
+eight_front [] bs n v0 v1 v2 v3 v4 v5 v6 v7 eight e0 e1 e2 e3 e4 e5 e6 e7 is few told = absurd (omega arith)
+eight_front (a ∷ []) bs n v0 v1 v2 v3 v4 v5 v6 v7 eight e0 e1 e2 e3 e4 e5 e6 e7 is few told = absurd (omega arith)
+eight_front (a ∷ b ∷ []) bs n v0 v1 v2 v3 v4 v5 v6 v7 eight e0 e1 e2 e3 e4 e5 e6 e7 is few told = absurd (omega arith)
+eight_front (a ∷ b ∷ c ∷ []) bs n v0 v1 v2 v3 v4 v5 v6 v7 eight e0 e1 e2 e3 e4 e5 e6 e7 is few told = absurd (omega arith)
+eight_front (a ∷ b ∷ c ∷ d ∷ []) bs n v0 v1 v2 v3 v4 v5 v6 v7 eight e0 e1 e2 e3 e4 e5 e6 e7 is few told = absurd (omega arith)
+eight_front (a ∷ b ∷ c ∷ d ∷ e ∷ []) bs n v0 v1 v2 v3 v4 v5 v6 v7 eight e0 e1 e2 e3 e4 e5 e6 e7 is few told = absurd (omega arith)
+eight_front (a ∷ b ∷ c ∷ d ∷ e ∷ f ∷ []) bs n v0 v1 v2 v3 v4 v5 v6 v7 eight e0 e1 e2 e3 e4 e5 e6 e7 is few told = absurd (omega arith)
+eight_front (a ∷ b ∷ c ∷ d ∷ e ∷ f ∷ g ∷ []) bs n v0 v1 v2 v3 v4 v5 v6 v7 eight e0 e1 e2 e3 e4 e5 e6 e7 is few told = absurd (omega arith)
+eight_front (a ∷ b ∷ c ∷ d ∷ e ∷ f ∷ g ∷ h ∷ t) bs n v0 v1 v2 v3 v4 v5 v6 v7 eight e0 e1 e2 e3 e4 e5 e6 e7 is few told =
+    eight_digits a b c d e f g h t bs n v0 v1 v2 v3 v4 v5 v6 v7 e0 e1 e2 e3 e4 e5 e6 e7 is few told
+
+-- bytes in front of what bytes are in front of
+prepend_twice : (xs bs : List ℕ) (r : Result (List ℕ) FrameFault) → prepend (xs ++ bs) r ≡ prepend xs (prepend bs r)
+prepend_twice xs bs (Err e) = refl
+prepend_twice xs bs (Ok ys) = ap Ok (append_assoc xs bs ys)
+
+-- one turn of eight digits, whose bytes are bs
+pub prepend_eight :
+    (xs bs ys rest all : List ℕ) → prepend xs (bytes_of rest) ≡ bytes_of all → prepend bs (bytes_of (drop 8 rest)) ≡ bytes_of rest
+    → ys ≡ xs ++ bs → prepend ys (bytes_of (take (length rest - 8) (drop 8 rest))) ≡ bytes_of all
+prepend_eight xs bs ys rest all e first more =
+    rw take_rest (ap (λ q. prepend q (bytes_of (drop 8 rest))) more ∙ prepend_twice xs bs (bytes_of (drop 8 rest)) ∙ ap (prepend xs) first ∙ e)
 
 over_long :
     (n : ℕ) (r : Result (List ℕ) FrameFault) → 80 < n

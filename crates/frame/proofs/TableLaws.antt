@@ -2,8 +2,8 @@
 use Rattle.std.proofs.Common.{◌≡◌, ℕ, zero, suc, ◌+◌, ◌-◌, ◌*◌, ◌/◌, ◌%◌, ◌<◌, ◌≤◌, Bool, true, cond, eqb, leb, ◌&&◌, List, get_or, set, Ok, Err, refl, sym, ap, ◌∙◌, inl, inr, arith}
 use Rattle.std.proofs.lemmas.Bool.{and_parts, cases_lt, eqb-true}
 use Rattle.std.proofs.lemmas.Bool.Decides.{nat_tests}
-use Rattle.frame.specs.declared.digits.TheConstants.{VALUES, PAIRS}
-use Rattle.frame.specs.Digits.{value_of, told_value, digit_of, with_byte}
+use Rattle.frame.specs.declared.digits.TheConstants.{WORTHS, PAIRS}
+use Rattle.frame.specs.Digits.{value_of, worth, digit_of, with_byte}
 
 -- f and g agree below n, as a test that computes
 abbrev agree : (ℕ → ℕ) → (ℕ → ℕ) → ℕ → Bool
@@ -21,16 +21,11 @@ agree_at f g (suc n) k h lt =
           ap f e ∙ eqb-true (f n) (g n) parts.0 ∙ ap g (sym e)
     ]
 
--- the value of a digit, or 16
-abbrev number_of : ℕ → ℕ
-number_of d = cond (leb 48 d) (cond (leb d 57) (d - 48) (cond (leb 65 d) (cond (leb d 70) (d - 55) 16) 16)) 16
+pub value_at : (d p : ℕ) → p ≡ d → d < 256 → get_or WORTHS p 0 ≡ worth d
+value_at d p e h = ap (λ k. get_or WORTHS k 0) e ∙ agree_at (λ k. get_or WORTHS k 0) worth 256 d refl h
 
-number_tells : (d : ℕ) → value_of d ≡ told_value (number_of d)
-number_tells d = grind (arith, nat_tests)
-
-pub value_at : (d p : ℕ) → p ≡ d → d < 256 → value_of d ≡ told_value (get_or VALUES p 0)
-value_at d p e h =
-    number_tells d ∙ ap told_value (sym (agree_at (λ k. get_or VALUES k 0) number_of 256 d refl h)) ∙ ap (λ k. told_value (get_or VALUES k 0)) (sym e)
+pub worth_most : (d : ℕ) → worth d ≤ 4294967296
+worth_most d = grind (arith, nat_tests)
 
 pub pair_at :
     (out : List ℕ) (at b p : ℕ) → p ≡ b → b < 256

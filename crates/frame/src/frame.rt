@@ -2,7 +2,7 @@
 ghost use Rattle.std.specs.Prelude.{◌≡◌};
 ghost use Rattle.frame.specs.Frame.{frame_in, frame_of, open_of, close_of, tap_of, shut_of, grant_of, settle_of, tick_of, audit_of, capacitor_of, layered_of, bank_of};
 
-use crate::digits::decode;
+use crate::digits::{MOST_BYTES, read_line};
 use crate::fault::FrameFault;
 use node::{NewReserve, NewTap};
 
@@ -213,8 +213,11 @@ impl Frame {
     pub fn of_line(line: &[u8]) -> Result<Frame, FrameFault>
         ensures result { result ≡ frame_in line.now }
     {
-        let bytes = decode(line)?;
-        Frame::from_bytes(bytes.as_slice())
+        let mut array = [0; MOST_BYTES];
+        match read_line(line, &mut array) {
+            Ok(len) => Frame::from_bytes(&array[..len]),
+            Err(fault) => Err(fault),
+        }
     }
 
     // The frame of a line's bytes.

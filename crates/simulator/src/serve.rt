@@ -44,36 +44,36 @@ fn settle<S: Store>(
     }
 }
 
-pub(crate) fn serve<S: Store>(node: &mut Node<S>, frame: Frame) -> Result<Answer, FrameFault>
-    ensures serves { ServesOn (S.Store) node.old frame result node.new }
+pub(crate) fn serve<S: Store>(node: &mut Node<S>, frame: &Frame) -> Result<Answer, FrameFault>
+    ensures serves { ServesOn (S.Store) node.old frame.now result node.new }
     ensures same { SoundNode (S.Store) node.old → OnErr result (node.new ≡ node.old) }
 {
     match frame {
         Frame::Open { task, reserve } => {
-            node.open(task, reserve)?;
+            node.open(*task, *reserve)?;
             Ok(Answer::Done)
         }
         Frame::Close { task, number } => {
-            node.close(task, number)?;
+            node.close(*task, *number)?;
             Ok(Answer::Done)
         }
         Frame::Tap { task, tap } => {
-            node.tap(task, tap)?;
+            node.tap(*task, *tap)?;
             Ok(Answer::Done)
         }
         Frame::Shut { task, tap } => {
-            node.shut(task, tap)?;
+            node.shut(*task, *tap)?;
             Ok(Answer::Done)
         }
         Frame::Grant {
             task,
             reserve,
             amount,
-        } => grant(node, task, reserve, amount),
-        Frame::Settle { task, serial, used } => settle(node, task, serial, used),
+        } => grant(node, *task, *reserve, *amount),
+        Frame::Settle { task, serial, used } => settle(node, *task, *serial, *used),
         Frame::Tick { harvest } => {
             let mut report = [0; TAPS];
-            let (loss, intake) = node.tick(harvest, &mut report)?;
+            let (loss, intake) = node.tick(*harvest, &mut report)?;
             Ok(Answer::Ticked { loss, intake })
         }
         Frame::Audit => Ok(Answer::Audited(node.audit())),

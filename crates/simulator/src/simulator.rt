@@ -79,13 +79,13 @@ impl Simulator {
         Ok(Answer::Done)
     }
 
-    fn serve(&mut self, frame: Frame) -> Result<Answer, FrameFault>
+    fn serve(&mut self, frame: &Frame) -> Result<Answer, FrameFault>
         ensures run { Reached self.old → Reached self.new }
-        ensures serves { Serves self.old frame result self.new }
+        ensures serves { Serves self.old frame.now result self.new }
         ensures same { Reached self.old → SameIfRefused result self.old self.new }
     {
         match self {
-            Simulator::Empty => self.begin(frame),
+            Simulator::Empty => self.begin(*frame),
             Simulator::Single(node) => serve(node, frame),
             Simulator::Layered(node) => serve(node, frame),
             Simulator::Cells(node) => serve(node, frame),
@@ -98,8 +98,11 @@ impl Simulator {
         ensures replies { Replies self.old line.now result self.new }
         ensures same { Reached self.old → SameIfRefused result self.old self.new }
     {
-        let frame = Frame::of_line(line)?;
-        self.serve(frame)
+        // By reference, since a frame that is moved is copied byte by byte.
+        match &Frame::of_line(line) {
+            Ok(frame) => self.serve(frame),
+            Err(fault) => Err(*fault),
+        }
     }
 
     // Writes the answer line over the front of an array of 160 bytes or more, and tells its length.

@@ -1,4 +1,6 @@
 -- Open grants, in the order in which they were given. Assumes nothing.
+--     StandsAt serial gs i      the grant with this serial stands at the place i
+--     Nowhere serial gs         it stands at none
 --     grant_of serial gs        the grant with this serial
 --     reserve_of, amount_of     its reserve and its amount
 --     fits_out s q gs           the grant with the serial s is out, and its amount is q
@@ -9,13 +11,23 @@
 --     mark p serial g           the grant g, parked or out by p where it has this serial
 --     marked p serial gs        the grants, with the one with this serial parked (p true) or out (p false)
 --     open_in t                 the open grants that the table t holds
-use Rattle.std.specs.Prelude.{ℕ, Bool, false, cond, not, ◌&&◌, List, [], ◌∷◌, ◌++◌, length, filter, map, Some, None, Option, ◌==◌, nat_lt}
+use Rattle.std.specs.Prelude.{◌≡◌, ℕ, ◌<◌, Bool, false, cond, not, ◌&&◌, List, [], ◌∷◌, ◌++◌, length, filter, map, Some, None, Option, ◌==◌, nat_lt, slice_index_or}
 use Rattle.std.specs.Option.{option_or}
 use Rattle.tables.specs.declared.grant.Grant.{Grant}
 use Rattle.tables.specs.declared.grants.Grants.{Grants}
 
 abbrev pub open_in : Grants → List Grant
 open_in t = t.rows.items
+
+-- what is read past the last place does not count
+abbrev pub serial_at : List Grant → ℕ → ℕ
+serial_at gs i = (slice_index_or gs i (record { serial = 0; amount = 0; reserve = 0; parked = false })).serial
+
+abbrev pub StandsAt : ℕ → List Grant → ℕ → Type 0
+StandsAt serial gs i = (i < length gs) × (serial_at gs i ≡ serial)
+
+abbrev pub Nowhere : ℕ → List Grant → Type 0
+Nowhere serial gs = (i : ℕ) → i < length gs → serial_at gs i ≡ serial → ⊥
 
 -- no two open grants of a node have one serial; were there two, this would be the newer
 abbrev pub grant_of : ℕ → List Grant → Option Grant

@@ -1,7 +1,7 @@
 // How grants are added, found, marked and removed.
-ghost use Rattle.std.specs.Prelude.{◌≡◌, ◌+◌, ◌-◌, ◌^◌, ◌≤◌, min, false, [], length, ◌==◌};
-ghost use Rattle.std.specs.List.{list_any, position};
-ghost use Rattle.tables.specs.Grants.{open_in, grant_of, of_reserve, added, without, marked};
+ghost use Rattle.std.specs.Prelude.{◌≡◌, ◌+◌, ◌-◌, ◌^◌, ◌≤◌, min, false, [], length, MatchOption};
+ghost use Rattle.std.specs.List.{list_any};
+ghost use Rattle.tables.specs.Grants.{open_in, Nowhere, StandsAt, grant_of, of_reserve, added, without, marked};
 
 use super::{GRANTS, Grants};
 use crate::grant::Grant;
@@ -32,11 +32,17 @@ impl Grants {
         self.serials
     }
 
-    // Where the grant with this serial stands.
+    // Where the grant with this serial stands. The newest is looked at first: it is the one that is parked.
     fn place(&self, serial: u32) -> Option<usize>
-        ensures result { result ≡ position (λ g. g.serial == serial) (open_in self.now) }
+        ensures result { MatchOption result (Nowhere serial (open_in self.now)) (StandsAt serial (open_in self.now)) }
     {
-        self.rows.iter().position(|grant| grant.serial == serial)
+        let rows = self.rows.as_slice();
+        for i in (0..rows.len()).rev() {
+            if rows[i].serial == serial {
+                return Some(i);
+            }
+        }
+        None
     }
 
     pub fn find(&self, serial: u32) -> Option<Grant>

@@ -4,10 +4,10 @@ use Rattle.tables.proofs.grants.Grants.find.Goals as goal
 
 pub returns-in_err-place : goal.returns-in_err-place
 returns-in_err-place c =
-    let none = none_found c.args.serial c.args.self.now.serials 0 c.args.self.now.rows.items c.args.self.now.rising (sym c.place.ensures.result ∙ c.in_err-place.was) in
+    let none = none_found c.args.serial c.args.self.now.serials 0 c.args.self.now.rows.items c.args.self.now.rising c.in_err-place.ensures.result in
     record { result = c.from_residual.ensures ∙ sym none }
 
 pub returns : goal.returns
 returns c =
-    let some = some_found c.args.serial c.args.self.now.serials 0 c.args.self.now.rows.items c.args.self.now.rising c.in_ok-place.place (sym c.place.ensures.result ∙ c.in_ok-place.was) in
+    let some = some_found c.args.serial c.args.self.now.serials 0 c.args.self.now.rows.items c.args.self.now.rising c.in_ok-place.place c.in_ok-place.ensures.result in
     search rules

@@ -1,7 +1,6 @@
 use Rattle.std.proofs.Common.{◌≡◌, ◌+◌, ◌*◌, length, take}
-use Rattle.frame.specs.Digits.{bytes_of}
-use Rattle.frame.proofs.DigitsLaws.{prepend}
-use Rattle.frame.proofs.digits.bytes_of.Given as goal
+use Rattle.frame.specs.Digits.{prepend, bytes_of}
+use Rattle.frame.proofs.digits.read_digits.Given as goal
 
 abbrev pub invariant-loop-rest : goal.invariant-loop-rest
 invariant-loop-rest l =
