@@ -13,10 +13,10 @@ mod shown;
 mod stack;
 mod tally;
 
-use std::io;
+use std::process::ExitCode;
 use tally::Tally;
 
-fn main(rt: HostRuntime) -> io::Result<()> {
+fn main(rt: HostRuntime) -> ExitCode {
     let mut tally = Tally::new(&rt);
     rate::run(&mut tally);
     capacitor::run(&mut tally);
