@@ -20,9 +20,6 @@ counts_more ts t y y' a d is = record {
   differed = d ∙ ap (raised (differs t)) is.differed ∙ sym (counted_more differs ts t);
 }
 
-pub adds_none : {y : Tally} → Adds 0 y y
-adds_none {y} = record { counts = λ ts is. ([], refl, subst (λ l. Counts l y) (sym (append-nil ts)) is) }
-
 pub adds_more : {m n : ℕ} {x y z : Tally} → Adds m x y → Adds n y z → Adds (m + n) x z
 adds_more {m} {n} {x} {y} {z} a b = record {
   counts = λ ts is.
@@ -38,9 +35,6 @@ adds_one one = record { counts = λ ts is. let u = one ts is in (u.0 ∷ [], ref
 pub adds_made : {S : Type 0} {n : ℕ} {x y z : Tally} {o : Option S} {s : S} (new : Result S OutOfRange) → MatchResult new (λ a. o ≡ Some a) (λ _. o ≡ None) → o ≡ Some s → Adds (unless_made new 0) x y → Adds n y z → Adds (unless_made new n) x z
 adds_made {S} {n} {x} {y} {z} (Ok a) m is p q = subst (λ k. Adds k x z) (zero-add n) (adds_more p q)
 adds_made (Err e) m is p q = absurd (cc (m, is))
-
-pub further_none : {y : Tally} → Further y y
-further_none = (0, adds_none)
 
 pub further_more : {x y z : Tally} → Further x y → Further y z → Further x z
 further_more f g = (f.0 + g.0, adds_more f.1 g.1)

@@ -1,4 +1,5 @@
 -- What a store is asked, and what it answers. Assumes nothing.
+--     means G s            the meaning of the store s, whose members are G
 --     Asked G s c r s'     the store s, whose members are G, answers the call c by r, and is then s'
 use Rattle.std.specs.Prelude.{◌≡◌, ℕ, Result}
 use Rattle.store.specs.declared.store.Store.{Ghosts}

@@ -1,5 +1,6 @@
 -- Trials, and what is counted of them. Assumes nothing.
 --     Trial                     what is expected of a trial, and what came, if there was memory for its text
+--     is_text bs text           the text that came is bs
 --     agrees t, differs t       just what is expected came of the trial t; it did not
 --     counted p ts              how many of the trials ts pass the test p, or the largest 64-bit number
 --     raised b x                x and, where b says so, one more
