@@ -6,7 +6,7 @@
 --     Sent y r y'           the tally y' is y after a send that came out as r
 --     Asks b y y'           the tally y' is y after a send where b says that there is one, however it came out
 --     Turned y r y'         the tally y' is y after a tick, and a send where the dues cover one
-use Rattle.std.specs.Prelude.{◌≡◌, ℕ, ◌-◌, ◌/◌, ◌≤◌, ◌⊎◌, Bool, true, false, nat_le, Ok, Err, Result}
+use Rattle.std.specs.Prelude.{◌≡◌, ℕ, ◌-◌, ◌/◌, ◌≤◌, Bool, true, false, nat_le, Ok, Err, Result}
 use Rattle.node.specs.declared.denial.Denial.{Denial}
 use Rattle.node.specs.declared.slip.Slip.{Slip}
 use Rattle.node.specs.Denial.{number_of}

@@ -9,7 +9,7 @@
 --     Adds n y y'               y' counts the trials that y counts, and n more
 --     Further y y'              y' counts the trials that y counts, and some more
 --     status_of told n          the status of the program: 0 where all was told and n, which is how many differed, is 0
-use Rattle.std.specs.Prelude.{◌≡◌, ℕ, ◌^◌, ◌-◌, ◌==◌, min, Bool, true, false, cond, not, List, ◌++◌, length, count_by, bytes_eq, IfSome, Some, None, Option, Ok, Err, Result}
+use Rattle.std.specs.Prelude.{◌≡◌, ℕ, ◌^◌, ◌-◌, ◌==◌, min, Bool, false, cond, not, List, ◌++◌, length, count_by, bytes_eq, IfSome, Some, None, Option, Ok, Err, Result}
 use Rattle.tables.specs.Books.{plus}
 use Rattle.trials.specs.declared.tally.Tally.{Tally}
 
