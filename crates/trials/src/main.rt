@@ -4,6 +4,7 @@
 mod bank;
 mod call;
 mod capacitor;
+mod failure;
 mod floor;
 mod leakage;
 mod line;
@@ -25,5 +26,6 @@ fn main(rt: HostRuntime) -> ExitCode {
     leakage::run(&mut tally);
     report::run(&mut tally);
     line::run(&mut tally);
+    failure::run(&mut tally);
     tally.tell()
 }
