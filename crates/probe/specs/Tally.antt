@@ -1,12 +1,11 @@
 -- What a probe has counted of its radio. Assumes nothing.
 --     nothing                    no tick and no request yet
---     one_more ns k              the counts ns, with one more at k
 --     count_tick q y             the tally y after a tick at which the radio got q
 --     count_request q y          after a request for q
 --     count_grant y              after a grant
 --     count_denial n y           after a denial with the number n
 --     count_settled used lost y  after a settlement
-use Rattle.std.specs.Prelude.{ℕ, List, replicate, slice_index, slice_set}
+use Rattle.std.specs.Prelude.{ℕ, replicate, slice_index, slice_set}
 use Rattle.tables.specs.Books.{plus}
 use Rattle.probe.specs.declared.tally.Tally.{Tally}
 
@@ -24,9 +23,6 @@ nothing = record {
   lost = 0;
 }
 
-abbrev pub one_more : List ℕ → ℕ → List ℕ
-one_more ns k = slice_set ns k (plus (slice_index ns k) 1)
-
 abbrev pub count_tick : ℕ → Tally → Tally
 count_tick q y = record y { ticks = plus y.ticks 1; delivered = plus y.delivered q }
 
@@ -37,7 +33,7 @@ abbrev pub count_grant : Tally → Tally
 count_grant y = record y { granted = plus y.granted 1 }
 
 abbrev pub count_denial : ℕ → Tally → Tally
-count_denial n y = record y { denied = plus y.denied 1; reasons = one_more y.reasons n }
+count_denial n y = record y { denied = plus y.denied 1; reasons = slice_set y.reasons n (plus (slice_index y.reasons n) 1) }
 
 abbrev pub count_settled : ℕ → ℕ → Tally → Tally
 count_settled used lost y = record y { settled = plus y.settled 1; spent = plus y.spent used; lost = plus y.lost lost }
