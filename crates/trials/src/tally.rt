@@ -1,5 +1,5 @@
 // Tells each trial beside what is expected of it, and counts those that came so and those that did not.
-ghost use Rattle.std.specs.Prelude.{◌≡◌, ℕ, List, [], ◌∷◌, ◌++◌, Option, All, IsTrue, not, bytes_eq};
+ghost use Rattle.std.specs.Prelude.{◌≡◌, ℕ, List, [], ◌∷◌, ◌++◌, Option, OnErr, All, IsTrue, not, bytes_eq};
 ghost use Rattle.std.specs.Process.{exit_status};
 ghost use Rattle.tables.specs.Books.{plus};
 ghost use Rattle.trials.specs.Tally.{Trial, Counts, Shows, Adds, agrees as agrees_in, raised, status_of};
@@ -50,6 +50,7 @@ impl Tally<'_> {
     fn count(&mut self, agreed: bool)
         ensures agreed { self.new.agreed ≡ raised agreed self.old.agreed }
         ensures differed { self.new.differed ≡ raised (not agreed) self.old.differed }
+        ensures same { self.new.told ≡ self.old.told }
     {
         if agreed {
             self.agreed = self.agreed.saturating_add(1);
@@ -67,6 +68,7 @@ impl Tally<'_> {
 
     fn print(&mut self, what: impl Display + Drop, expected: &str, came: &str)
         ensures same { (self.new.agreed ≡ self.old.agreed) × (self.new.differed ≡ self.old.differed) }
+        ensures told { OnErr self.old.told (self.new.told ≡ self.old.told) }
     {
         if self.told.is_ok() {
             self.told = println!(self.rt; "{what}: expected {expected}, came {came}");
@@ -82,6 +84,7 @@ impl Tally<'_> {
     )
         ensures counts { (ts : List Trial) → Counts ts self.old → (text : Option (List ℕ)) × Shows (T.Display.output came) text × Counts (ts ++ record { expected = expected.now; came = text } ∷ []) self.new }
         ensures trials { Adds 1 self.old self.new }
+        ensures told { OnErr self.old.told (self.new.told ≡ self.old.told) }
     {
         match came.to_string(self.rt.alloc()) {
             Ok(text) => {
@@ -95,6 +98,7 @@ impl Tally<'_> {
     // The last line, how many came as expected, and the status of the program.
     pub(crate) fn tell(self) -> ExitCode
         ensures status { (ts : List Trial) → Counts ts self.entry → exit_status result ≡ 0 → All (λ t. IsTrue (agrees_in t)) ts }
+        ensures told { OnErr self.entry.told (exit_status result ≡ 1) }
     {
         let run = self.run();
         let Tally {
