@@ -1,5 +1,10 @@
 -- The worked figures: what the definitions give for small numbers. Assumes nothing.
 --     dues k n d r         the dues of k ticks at the rate n / d with the remainder r
+--     holding c h          a capacitor of the capacity c that holds h
+--     floored              a floor of 4 over a capacitor of 10 that holds 6
+--     fault_at q           the fault of a draw of q from it
+--     child level          a reserve under the root
+--     three                a root and two reserves, with 3, 2 and 5
 --     Figures              nine figures, each a field
 use Rattle.std.specs.Prelude.{◌≡◌, ℕ, zero, suc, ◌-◌, List, [], ◌∷◌, Some, slice_set}
 use Rattle.rates.specs.Rate.{due, remainder}
@@ -26,7 +31,6 @@ dues (suc k) n d r = due n d r ∷ dues k n d (remainder n d r)
 abbrev pub holding : ℕ → ℕ → Capacitor
 holding capacity held = record { cell = cell capacity held }
 
--- a floor of 4 over a capacitor that holds 6
 abbrev pub floored : Layered Capacitor Floor
 floored = record { below = holding 10 6; layer = record { amount = 4 } }
 
