@@ -1,7 +1,8 @@
 // A script as far as it has been told.
 ghost use Rattle.std.specs.Prelude.{◌≡◌, [], IfOk};
 ghost use Rattle.recount.specs.Recount.{Counts};
-ghost use Rattle.cinderlog.specs.Session.{Logged};
+ghost use Rattle.simulator.specs.declared.simulator.Simulator.TheVariants.{Empty as Nothing};
+ghost use Rattle.cinderlog.specs.Session.{Logged, ticks_after};
 
 use crate::balance::Balance;
 use crate::sentence::{Entry, NoFrame};
@@ -26,7 +27,9 @@ pub struct Session {
 impl Session {
     // Nothing stands, and nothing is told.
     pub fn new(heap: Global, output: Stdout) -> io::Result<Session>
+        ensures simulator { IfOk result (λ s. s.simulator ≡ Nothing) }
         ensures counts { IfOk result (λ s. Counts [] s.recount) }
+        ensures ticks { IfOk result (λ s. s.ticks ≡ 0) }
     {
         let recount = Recount::new(heap)?;
         let output = BufWriter::new(heap, output)?;
@@ -38,17 +41,9 @@ impl Session {
         })
     }
 
-    // Replays a line, and counts what it is answered.
-    fn reply(&mut self, line: &[u8]) -> Result<Answer, FrameFault>
-        ensures logged { Logged self.old line.now self.new }
-    {
-        let reply = self.simulator.reply(line);
-        self.recount.note(&reply);
-        reply
-    }
-
     // Counts an accepted tick.
     fn count_tick(&mut self, reply: Result<Answer, FrameFault>)
+        ensures ticks { self.new.ticks ≡ ticks_after reply self.old.ticks }
         ensures same { (self.new.simulator ≡ self.old.simulator) × (self.new.recount ≡ self.old.recount) }
     {
         if let Ok(Answer::Ticked { .. }) = reply {
@@ -56,8 +51,20 @@ impl Session {
         }
     }
 
+    // Replays a line, and counts what it is answered.
+    fn reply(&mut self, line: &[u8]) -> Result<Answer, FrameFault>
+        ensures logged { Logged self.old line.now self.new }
+    {
+        let reply = self.simulator.reply(line);
+        self.recount.note(&reply);
+        self.count_tick(reply);
+        reply
+    }
+
     // The totals of the node, where one stands.
-    fn tell_totals(&mut self) -> io::Result<()> {
+    fn tell_totals(&mut self) -> io::Result<()>
+        ensures same { (self.new.recount ≡ self.old.recount) × (self.new.ticks ≡ self.old.ticks) }
+    {
         match self.simulator.reply(b"09") {
             Ok(Answer::Audited(totals)) => {
                 let balance = Balance(totals);
@@ -73,7 +80,6 @@ impl Script for Session {
 
     fn line(&mut self, line: &[u8]) -> io::Result<()> {
         let reply = self.reply(line);
-        self.count_tick(reply);
         let number = self.recount.lines();
         let ticks = self.ticks;
         match Frame::of_line(line) {

@@ -1,14 +1,7 @@
 -- The answers that a session holds, which are not written yet. Assumes nothing.
---     Waits xs ys       of the answers xs that were held, ys still are: all or, where they have been written, none
---     Adds xs r ys      the line of r stands behind what is left of the answers xs, and all of that is ys
-use Rattle.std.specs.Prelude.{◌≡◌, ℕ, List, [], ◌++◌, Result, ◌⊎◌}
-use Rattle.frame.specs.Digits.{written}
-use Rattle.frame.specs.Answer.{reply_bytes}
-use Rattle.frame.specs.declared.answer.Answer.{Answer}
-use Rattle.frame.specs.declared.fault.FrameFault.{FrameFault}
+--     Grows o xs o' ys bs      what a writer has been given and what is held grow by bs: what o' holds beyond o, and then ys, is xs and then bs
+use Rattle.std.specs.Prelude.{◌≡◌, ℕ, List, ◌++◌, Option}
+use Rattle.std.specs.Io.KnownBytes.{Appends}
 
-abbrev pub Waits : List ℕ → List ℕ → Type 0
-Waits xs ys = (ys ≡ xs) ⊎ (ys ≡ [])
-
-abbrev pub Adds : List ℕ → Result Answer FrameFault → List ℕ → Type 0
-Adds xs r ys = (left : List ℕ) × Waits xs left × (ys ≡ left ++ written (reply_bytes r))
+abbrev pub Grows : Option (List ℕ) → List ℕ → Option (List ℕ) → List ℕ → List ℕ → Type 0
+Grows o xs o' ys bs = (ws : List ℕ) × Appends o o' ws × (ws ++ ys ≡ xs ++ bs)

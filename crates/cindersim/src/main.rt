@@ -1,17 +1,21 @@
 // Reads frames from standard input, one to a line, and writes one answer line for each.
 #![tactic(auto)]
 
-ghost use Rattle.std.specs.Prelude.{◌≡◌, ◌≤◌, ◌+◌, Result, OnOk, take};
+ghost use Rattle.std.specs.Prelude.{◌≡◌, ◌≤◌, ◌+◌, [], Result, OnOk, take};
+ghost use Rattle.std.specs.Io.KnownBytes.{Appends};
 ghost use Rattle.frame.specs.declared.answer.Answer.{Answer};
+ghost use Rattle.frame.specs.Answer.{reply_bytes};
+ghost use Rattle.frame.specs.Digits.{written};
 ghost use Rattle.frame.specs.declared.fault.FrameFault.{FrameFault};
+ghost use Rattle.simulator.specs.declared.simulator.Simulator.TheVariants.{Empty as Nothing};
 ghost use Rattle.simulator.specs.Simulator.{Replies};
-ghost use Rattle.cindersim.specs.Held.{Waits, Adds};
+ghost use Rattle.cindersim.specs.Held.{Grows};
 
 use filter::Script;
 use frame::ROOM;
 use simulator::Simulator;
 use std::io;
-use std::io::{Stdout, Write};
+use std::io::Write;
 use std::process::ExitCode;
 
 const BUFFER: usize = 65_536;
@@ -51,21 +55,35 @@ An accepted frame is answered 00 and the fields told, a refused one its number:
                                        a stage of the store lacks so much
 ";
 
-// A simulator, with the answers that are not written yet.
+// A simulator, with the answers that are not written yet. It is for any writer, since some tell what they were given.
 #[derive(Drop)]
-struct Session {
+struct Session<W: Write + Drop> {
     simulator: Simulator,
-    output: Stdout,
+    output: W,
     buffer: [u8; BUFFER],
     // So many bytes of the buffer are answers.
     len: usize,
     ghost within: { len ≤ 65536 },
 }
 
-impl Session {
+impl<W: Write + Drop> Session<W> {
+    // Nothing stands, and no answer is held.
+    fn new(output: W) -> Session<W>
+        ensures simulator { result.simulator ≡ Nothing }
+        ensures held { result.len ≡ 0 }
+    {
+        Session {
+            simulator: Simulator::new(),
+            output,
+            buffer: [0; BUFFER],
+            len: 0,
+        }
+    }
+
     // Writes the answers that are held.
     fn write(&mut self) -> io::Result<()>
         ensures after { OnOk result (self.new.len ≡ 0) }
+        ensures written { OnOk result (Appends (W.contents self.old.output) (W.contents self.new.output) (take self.old.len self.old.buffer)) }
         ensures same { self.new.simulator ≡ self.old.simulator }
     {
         self.output.write_all(&self.buffer[..self.len])?;
@@ -76,7 +94,7 @@ impl Session {
     // Writes them where there is no room for one more.
     fn make_room(&mut self) -> io::Result<()>
         ensures room { OnOk result (self.new.len + 160 ≤ 65536) }
-        ensures waits { OnOk result (Waits (take self.old.len self.old.buffer) (take self.new.len self.new.buffer)) }
+        ensures held { OnOk result (Grows (W.contents self.old.output) (take self.old.len self.old.buffer) (W.contents self.new.output) (take self.new.len self.new.buffer) []) }
         ensures same { self.new.simulator ≡ self.old.simulator }
     {
         if BUFFER - self.len < ROOM {
@@ -86,9 +104,9 @@ impl Session {
     }
 }
 
-impl Script for Session {
-    // The simulator replies to the line, and the answer is held.
-    ghost hears = { λ s line s'. (r : Result Answer FrameFault) × Replies s.simulator line r s'.simulator × Adds (take s.len s.buffer) r (take s'.len s'.buffer) };
+impl<W: Write + Drop> Script for Session<W> {
+    // The simulator replies to the line, and its answer stands last.
+    ghost hears = { λ s line s'. (r : Result Answer FrameFault) × Replies s.simulator line r s'.simulator × Grows (W.contents s.output) (take s.len s.buffer) (W.contents s'.output) (take s'.len s'.buffer) (written (reply_bytes r)) };
 
     fn line(&mut self, line: &[u8]) -> io::Result<()> {
         self.make_room()?;
@@ -99,17 +117,16 @@ impl Script for Session {
         Ok(())
     }
 
-    fn flush(&mut self) -> io::Result<()> {
+    fn flush(&mut self) -> io::Result<()>
+        ensures after { OnOk result (self.new.len ≡ 0) }
+        ensures written { OnOk result (Appends (W.contents self.old.output) (W.contents self.new.output) (take self.old.len self.old.buffer)) }
+        ensures same { self.new.simulator ≡ self.old.simulator }
+    {
         self.write()
     }
 }
 
 fn main(rt: HostRuntime) -> ExitCode {
-    let mut session = Session {
-        simulator: Simulator::new(),
-        output: rt.stdout(),
-        buffer: [0; BUFFER],
-        len: 0,
-    };
+    let mut session = Session::new(rt.stdout());
     filter::run(&rt, "cindersim", HELP, &mut session)
 }

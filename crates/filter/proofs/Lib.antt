@@ -1,1 +1,2 @@
 pub mod CuttingLaws
+pub mod StatusLaws

@@ -54,6 +54,7 @@ fn tell(rt: &HostRuntime, name: &str, res: Result<(), Stop>) -> ExitCode
 }
 
 // Runs a program that takes no argument but `--help`. It fails with one line on standard error, and else writes none there.
+#[tactic(auto, using(crate::proofs::StatusLaws::ends_most))]
 pub fn run<S: Script>(rt: &HostRuntime, name: &str, help: &str, script: &mut S) -> ExitCode
     ensures status { exit_status result ≤ 1 }
 {

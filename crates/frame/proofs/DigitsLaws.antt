@@ -5,12 +5,12 @@ use lib.Dec.{lit<}
 use mir.Syntax.{w32}
 use Rattle.std.specs.Int.{to_be_bytes}
 use Rattle.std.proofs.lemmas.Nat.{be_bytes_4}
-use Rattle.std.proofs.lemmas.List.{drop_more, take_more, length-take-le, take_all, take_rest}
+use Rattle.std.proofs.lemmas.List.{drop_more, length-take-le, take_all, take_rest}
 use Rattle.std.proofs.lemmas.Bool.Decides.{nat_tests, leb_tells}
 use Rattle.frame.specs.declared.fault.FrameFault.{FrameFault}
 use Rattle.frame.specs.declared.fault.FrameFault.TheVariants.{BadLine}
 use Rattle.frame.specs.Prefix.{cut}
-use Rattle.frame.specs.Digits.{digit_of, digits_of, with_byte, with_bytes, written, over_front, value_of, worth, prepend, joined, bytes_of, line_of}
+use Rattle.frame.specs.Digits.{digit_of, digits_of, with_bytes, written, over_front, value_of, worth, prepend, joined, bytes_of, line_of}
 
 pub prepend_none : (r : Result (List ℕ) FrameFault) → prepend [] r ≡ r
 prepend_none (Err e) = refl

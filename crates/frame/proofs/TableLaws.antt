@@ -1,9 +1,9 @@
 -- What the tables of digits hold. Assumes nothing.
-use Rattle.std.proofs.Common.{◌≡◌, ℕ, zero, suc, ◌+◌, ◌-◌, ◌*◌, ◌/◌, ◌%◌, ◌<◌, ◌≤◌, Bool, true, cond, eqb, leb, ◌&&◌, List, get_or, set, Ok, Err, refl, sym, ap, ◌∙◌, inl, inr, arith}
+use Rattle.std.proofs.Common.{◌≡◌, ℕ, zero, suc, ◌+◌, ◌*◌, ◌/◌, ◌%◌, ◌<◌, ◌≤◌, Bool, true, eqb, ◌&&◌, List, get_or, set, refl, sym, ap, ◌∙◌, inl, inr, arith}
 use Rattle.std.proofs.lemmas.Bool.{and_parts, cases_lt, eqb-true}
 use Rattle.std.proofs.lemmas.Bool.Decides.{nat_tests}
 use Rattle.frame.specs.declared.digits.TheConstants.{WORTHS, PAIRS}
-use Rattle.frame.specs.Digits.{value_of, worth, digit_of, with_byte}
+use Rattle.frame.specs.Digits.{worth, digit_of, with_byte}
 
 -- f and g agree below n, as a test that computes
 abbrev agree : (ℕ → ℕ) → (ℕ → ℕ) → ℕ → Bool

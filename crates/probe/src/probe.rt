@@ -1,7 +1,10 @@
 // A soil probe whose radio is fed by a tap, and sends whenever its dues cover a send.
-ghost use Rattle.std.specs.Prelude.{IfOk, ◌≡◌, ◌-◌, ◌/◌, nat_le};
-ghost use Rattle.tables.specs.Books.{plus};
+ghost use Rattle.std.specs.Prelude.{IfOk, ◌≡◌};
+ghost use Rattle.store.specs.Capacitor.{capacitor_store};
 ghost use Rattle.node.specs.Node.{IsOut};
+ghost use Rattle.node.specs.Runs.{Reached};
+ghost use Rattle.probe.specs.Tally.{nothing};
+ghost use Rattle.probe.specs.Probe.{due_after as due_in, covers as covers_send, Covered, requested as requested_for, Sent, Turned};
 
 use crate::tally::Tally;
 use example::Failure;
@@ -29,14 +32,14 @@ const SEND: u32 = 31;
 
 // What the radio is due in so many ticks, the whole quanta alone.
 fn due_after(ticks: u64) -> u64
-    ensures result { result ≡ ticks / 3 }
+    ensures result { result ≡ due_in ticks }
 {
     ticks / u64::from(TICKS_A_QUANTUM)
 }
 
 // The dues cover one send beyond what was requested.
 fn covers(due: u64, requested: u64) -> bool
-    ensures result { result ≡ nat_le 31 (due - requested) }
+    ensures result { result ≡ covers_send due requested }
 {
     u64::from(SEND) <= due.saturating_sub(requested)
 }
@@ -49,7 +52,10 @@ struct Probe<S> {
 }
 
 impl<S: Store> Probe<S> {
-    fn new(store: S) -> Probe<S> {
+    fn new(store: S) -> Probe<S>
+        ensures run { S.Store.sound store → Reached (S.Store) result.node }
+        ensures tally { result.tally ≡ nothing }
+    {
         Probe {
             node: Node::new(store),
             tally: Tally::new(),
@@ -57,7 +63,10 @@ impl<S: Store> Probe<S> {
     }
 
     // A reserve for the radio's task, and a tap from the root to it: two values, with this story's numbers.
-    fn feed_radio(&mut self) -> Result<(), Denial> {
+    fn feed_radio(&mut self) -> Result<(), Denial>
+        ensures run { Reached (S.Store) self.old.node → Reached (S.Store) self.new.node }
+        ensures tally { self.new.tally ≡ self.old.tally }
+    {
         let radio = NewReserve {
             parent: ROOT,
             number: RADIO,
@@ -78,7 +87,8 @@ impl<S: Store> Probe<S> {
 
     // Requests a grant for one send, and counts how it went; a match, since each way is counted.
     fn request(&mut self) -> Result<Slip, Denial>
-        ensures requested { self.new.tally.requested ≡ plus self.old.tally.requested 31 }
+        ensures run { Reached (S.Store) self.old.node → Reached (S.Store) self.new.node }
+        ensures tally { self.new.tally ≡ requested_for result self.old.tally }
         ensures slip { IfOk result (λ slip. (slip.amount ≡ 31) × IsOut slip self.new.node) }
     {
         self.tally.request(SEND);
@@ -95,7 +105,10 @@ impl<S: Store> Probe<S> {
     }
 
     // One send: its slip is out, so it is not refused when it is settled with all used.
-    fn send(&mut self) -> Result<(), Denial> {
+    fn send(&mut self) -> Result<(), Denial>
+        ensures run { Reached (S.Store) self.old.node → Reached (S.Store) self.new.node }
+        ensures tally { Sent self.old.tally result self.new.tally }
+    {
         let slip = self.request()?;
         match self.node.settle(slip, SEND) {
             Ok(lost) => {
@@ -107,7 +120,11 @@ impl<S: Store> Probe<S> {
     }
 
     // One tick, and then a send if the dues cover it; a denial is counted, and the send left out.
-    fn turn(&mut self) -> Result<(), Denial> {
+    fn turn(&mut self) -> Result<(), Denial>
+        ensures run { Reached (S.Store) self.old.node → Reached (S.Store) self.new.node }
+        ensures tally { Turned self.old.tally result self.new.tally }
+        ensures covered { Covered self.old.tally → Covered self.new.tally }
+    {
         let mut report = [0; TAPS];
         let _ = self.node.tick(HARVEST, &mut report)?;
         self.tally.tick(report[0]);
@@ -155,18 +172,27 @@ impl<S: Store> Probe<S> {
     }
 }
 
-pub fn tell(rt: &impl Print) -> Result<(), Failure> {
+// The probe after so many ticks.
+fn lived(ticks: u32) -> Result<Probe<Capacitor>, Failure>
+    ensures run { IfOk result (λ probe. Reached capacitor_store probe.node) }
+    ensures covered { IfOk result (λ probe. Covered probe.tally) }
+{
+    let mut probe = Probe::new(Capacitor::new(CAPACITY)?);
+    probe.feed_radio()?;
+    for _ in 0..ticks {
+        probe.turn()?;
+    }
+    Ok(probe)
+}
+
+pub(crate) fn tell(rt: &impl Print) -> Result<(), Failure> {
     println!(rt;
         "A soil probe has a capacitor of {CAPACITY} quanta and a harvest of {HARVEST} a tick."
     )?;
     println!(rt;
         "Its radio is fed 1 quantum in {TICKS_A_QUANTUM} ticks, and a send takes {SEND} quanta."
     )?;
-    let mut probe = Probe::new(Capacitor::new(CAPACITY)?);
-    probe.feed_radio()?;
-    for _ in 0..TICKS {
-        probe.turn()?;
-    }
+    let mut probe = lived(TICKS)?;
     probe.show(rt)?;
     probe.hasten(rt)
 }

@@ -1,12 +1,15 @@
 // A bank, and a capacitor under a floor under leakage, each for a few ticks.
 ghost use Rattle.std.specs.Prelude.{◌≡◌, ◌-◌};
+ghost use Rattle.node.specs.Runs.{Reached};
 
 use example::Failure;
 use layers::{Floor, Layer, Leakage};
 use node::{Node, ROOT, ROOT_TASK, TAPS};
 use store::{Bank, Capacitor, Store};
 
-fn tick<S: Store>(rt: &impl Print, node: &mut Node<S>, harvest: u32) -> Result<(), Failure> {
+fn tick<S: Store>(rt: &impl Print, node: &mut Node<S>, harvest: u32) -> Result<(), Failure>
+    ensures run { Reached (S.Store) node.old → Reached (S.Store) node.new }
+{
     let mut report = [0; TAPS];
     let (loss, intake) = node.tick(harvest, &mut report)?;
     println!(rt; "A tick with a harvest of {harvest} loses {loss} and takes in {intake}.")?;
@@ -14,7 +17,9 @@ fn tick<S: Store>(rt: &impl Print, node: &mut Node<S>, harvest: u32) -> Result<(
 }
 
 // Requests a grant from the root, and settles it with all used: its slip is out, so that is not refused.
-fn spend<S: Store>(rt: &impl Print, node: &mut Node<S>, amount: u32) -> Result<(), Failure> {
+fn spend<S: Store>(rt: &impl Print, node: &mut Node<S>, amount: u32) -> Result<(), Failure>
+    ensures run { Reached (S.Store) node.old → Reached (S.Store) node.new }
+{
     match node.grant(ROOT_TASK, ROOT, amount) {
         Ok(slip) => match node.settle(slip, amount) {
             Ok(lost) => {
@@ -55,7 +60,7 @@ fn tell_settlement(rt: &impl Print, bank: Bank) -> Result<(), Failure> {
     Ok(())
 }
 
-pub fn tell_bank(rt: &impl Print) -> Result<(), Failure> {
+pub(crate) fn tell_bank(rt: &impl Print) -> Result<(), Failure> {
     let mut bank = Bank::new(&[5, 3, 2])?;
     let taken = bank.charge(7);
     println!(rt; "A bank with cells of 5, 3 and 2 takes in {taken} and holds {bank}.")?;
@@ -64,7 +69,7 @@ pub fn tell_bank(rt: &impl Print) -> Result<(), Failure> {
     tell_settlement(rt, bank)
 }
 
-pub fn tell_layers(rt: &impl Print) -> Result<(), Failure> {
+pub(crate) fn tell_layers(rt: &impl Print) -> Result<(), Failure> {
     println!(rt; "A capacitor of 25 stands under a floor of 4, under a leakage of 1000 parts.")?;
     let floor = Floor::new(4).over(Capacitor::new(25)?);
     let leakage = Leakage::new(1_000)?.over(floor);

@@ -3,6 +3,8 @@
 --     Reply                          what a line is answered: an answer, or a refusal
 --     lack_in d, lack_of a           what the denial d, or the reply a, tells to be lacking, under 16 or 17
 --     shortage_number s              the number of the denials by such a shortage
+--     lacks k, lacks_to n t i k      k tells that something is lacking;  under n, to the task t at the reserve i
+--     quanta k                       the quanta that k tells to be lacking
 --     accepted a                     a is no refusal
 --     refused_with n a               a is the refusal with the number n
 --     denied a                       a is a denial under 16 or 17

@@ -1,5 +1,5 @@
 // The denials under 16 and 17.
-ghost use Rattle.std.specs.Prelude.{◌≡◌, [], IfOk, Result};
+ghost use Rattle.std.specs.Prelude.{◌≡◌, [], IfOk};
 ghost use Rattle.recount.specs.Recount.{Denies, lack_of, row_in, rows_of};
 ghost use Rattle.recount.specs.Noting.{Keyed, all_after, rows_after};
 

@@ -1,5 +1,5 @@
 // The denials that tell how much is lacking: those under 16 and 17.
-ghost use Rattle.std.specs.Prelude.{◌≡◌, Result};
+ghost use Rattle.std.specs.Prelude.{◌≡◌};
 ghost use Rattle.recount.specs.Recount.{lack_of};
 
 use frame::{Answer, FrameFault};

@@ -1,5 +1,5 @@
 // How many lines were accepted, and how many refused with each number.
-ghost use Rattle.std.specs.Prelude.{◌≡◌, ◌+◌, [], length, slice_index, Result};
+ghost use Rattle.std.specs.Prelude.{◌≡◌, ◌+◌, [], length, slice_index};
 ghost use Rattle.recount.specs.Recount.{Judges, capped};
 ghost use Rattle.recount.specs.Noting.{accepted_after, refused_after};
 

@@ -1,4 +1,6 @@
 // Banks: the order of their cells, how many there may be, and what they may hold together.
+ghost use Rattle.trials.specs.Tally.{Further};
+
 use crate::call::{Call, script};
 use crate::shown::Refusal;
 use crate::stack::made;
@@ -27,7 +29,9 @@ const EDGES: &[(&[u32], &str)] = &[
     (&[u32::MAX, 1], "5"),
 ];
 
-fn cells(tally: &mut Tally<'_>) {
+fn cells(tally: &mut Tally<'_>)
+    ensures trials { Further tally.old tally.new }
+{
     let Some(mut bank) = made(tally, "cells 5, 3, 2", Bank::new(&[5, 3, 2])) else {
         return;
     };
@@ -37,7 +41,9 @@ fn cells(tally: &mut Tally<'_>) {
     tally.hold("then draw 3", "[4, 0, 0]", &bank);
 }
 
-fn edges(tally: &mut Tally<'_>) {
+fn edges(tally: &mut Tally<'_>)
+    ensures trials { Further tally.old tally.new }
+{
     for (capacities, expected) in EDGES {
         tally.hold(
             format_args!("refusal of a bank of {capacities:?}"),
@@ -47,7 +53,9 @@ fn edges(tally: &mut Tally<'_>) {
     }
 }
 
-pub fn run(tally: &mut Tally<'_>) {
+pub(crate) fn run(tally: &mut Tally<'_>)
+    ensures trials { Further tally.old tally.new }
+{
     cells(tally);
     script(tally, "cells 5, 3, 2", Bank::new(&[5, 3, 2]), FILLED);
     edges(tally);

@@ -1,4 +1,9 @@
 // Calls of a store, written down so that a table can hold them.
+ghost use Rattle.std.specs.Prelude.{length};
+ghost use Rattle.trials.specs.Tally.{Adds};
+ghost use Rattle.trials.specs.Stack.{unless_made};
+ghost use Rattle.trials.specs.Call.{Asked};
+
 use crate::stack::made;
 use crate::tally::Tally;
 use rates::OutOfRange;
@@ -8,7 +13,7 @@ use store::{Fault, Store};
 
 // Data and no closures, since each call is told by its name and by what it asks.
 #[derive(Clone, Copy)]
-pub enum Call {
+pub(crate) enum Call {
     Held,
     Capacity,
     Available,
@@ -60,7 +65,10 @@ impl fmt::Display for Came {
     }
 }
 
-fn answer<S: Store>(store: &mut S, call: Call) -> Came {
+fn answer<S: Store>(store: &mut S, call: Call) -> Came
+    ensures sound { S.Store.sound store.old → S.Store.sound store.new }
+    ensures asked { S.Store.sound store.old → Asked (S.Store) store.old call result store.new }
+{
     match call {
         Call::Held => Came::Number(store.held()),
         Call::Capacity => Came::Number(store.capacity()),
@@ -74,12 +82,14 @@ fn answer<S: Store>(store: &mut S, call: Call) -> Came {
 }
 
 // One store's calls in turn, each with its answer.
-pub fn script<S: Store + Drop>(
+pub(crate) fn script<S: Store + Drop>(
     tally: &mut Tally<'_>,
     name: impl Display + Drop,
     new: Result<S, OutOfRange>,
     calls: &[(Call, &str)],
-) {
+)
+    ensures trials { Adds (unless_made new (length calls.now)) tally.old tally.new }
+{
     let Some(mut store) = made(tally, format_args!("{name}"), new) else {
         return;
     };

@@ -1,4 +1,6 @@
 // Capacitors: the edges of the capacity, a charge above the room, refused and accepted draws, drains and ticks.
+ghost use Rattle.trials.specs.Tally.{Further};
+
 use crate::call::{Call, script};
 use crate::shown::Refusal;
 use crate::tally::Tally;
@@ -27,7 +29,9 @@ const SMALL: &[(Call, &str)] = &[
     (Call::Draw(1), "fault height 0, kind C, deficit 1"),
 ];
 
-pub fn run(tally: &mut Tally<'_>) {
+pub(crate) fn run(tally: &mut Tally<'_>)
+    ensures trials { Further tally.old tally.new }
+{
     script(tally, "capacitor of 10", Capacitor::new(10), SMALL);
     script(
         tally,

@@ -1,4 +1,6 @@
 // Floors: what they keep from a draw, whose fault is told, and what they do not stop.
+ghost use Rattle.trials.specs.Tally.{Further};
+
 use crate::call::{Call, script};
 use crate::stack::{charged, over};
 use crate::tally::Tally;
@@ -23,7 +25,9 @@ const ABOVE: &[(Call, &str)] = &[
     (Call::Held, "10"),
 ];
 
-pub fn run(tally: &mut Tally<'_>) {
+pub(crate) fn run(tally: &mut Tally<'_>)
+    ensures trials { Further tally.old tally.new }
+{
     script(
         tally,
         "floor 4 over 6",

@@ -1,4 +1,6 @@
 // Leakage: the remainder that it keeps, the edges of its part, and layers above and below it.
+ghost use Rattle.trials.specs.Tally.{Further};
+
 use crate::call::{Call, script};
 use crate::shown::Refusal;
 use crate::stack::{charged, over};
@@ -29,7 +31,9 @@ const DEEP: &[(Call, &str)] = &[
 
 const TWICE: &[(Call, &str)] = &[(Call::Tick, "19"), (Call::Held, "81")];
 
-pub fn run(tally: &mut Tally<'_>) {
+pub(crate) fn run(tally: &mut Tally<'_>)
+    ensures trials { Further tally.old tally.new }
+{
     script(
         tally,
         "leakage 1000 over 25",

@@ -1,4 +1,7 @@
 // Lines: what a whole line is answered, in which order it is looked at, and the array that the answer goes to.
+ghost use Rattle.std.specs.Prelude.{length};
+ghost use Rattle.trials.specs.Tally.{Adds, Further};
+
 use crate::shown::{Told, Written};
 use crate::tally::Tally;
 use frame::ROOM;
@@ -137,9 +140,25 @@ const NONE_LEAKS: &[(&str, &str)] = &[
     ("0600000000001A", "10000000000001$"),
 ];
 
-// Lines to one simulator, each with its answer, as far as the simulator says that it wrote.
-fn session(tally: &mut Tally<'_>, lines: &[(&str, &str)]) {
-    let mut simulator = Simulator::new();
+// A grant of 1 from the root.
+const GRANT: &str = "06000000000001";
+
+const MOST_GRANTS: u8 = 64;
+
+const CHARGED: &[(&str, &str)] = &[("1000000064", "00$"), ("0800000064", "000000000000000064$")];
+
+// With one grant less than may be open: the last one, the next, and another once one is settled.
+const FULL: &[(&str, &str)] = &[
+    (GRANT, "0000000040$"),
+    (GRANT, "0E$"),
+    ("07000000004000000000", "0000000000$"),
+    (GRANT, "0000000041$"),
+];
+
+// Lines to the simulator, each with its answer, as far as the simulator says that it wrote.
+fn session(tally: &mut Tally<'_>, simulator: &mut Simulator, lines: &[(&str, &str)])
+    ensures trials { Adds (length lines.now) tally.old tally.new }
+{
     for (line, expected) in lines {
         let mut out = [0; ROOM];
         let came = simulator.answer(line.as_bytes(), &mut out);
@@ -147,8 +166,22 @@ fn session(tally: &mut Tally<'_>, lines: &[(&str, &str)]) {
     }
 }
 
+// As many grants as may be open, and more; of the first ones no trial is made.
+fn grants(tally: &mut Tally<'_>)
+    ensures trials { Further tally.old tally.new }
+{
+    let mut simulator = Simulator::new();
+    session(tally, &mut simulator, CHARGED);
+    for _ in 1..MOST_GRANTS {
+        let _ = simulator.answer(GRANT.as_bytes(), &mut [0; ROOM]);
+    }
+    session(tally, &mut simulator, FULL);
+}
+
 // A line into an array that is one byte too short.
-fn short(tally: &mut Tally<'_>) {
+fn short(tally: &mut Tally<'_>)
+    ensures trials { Adds 1 tally.old tally.new }
+{
     let mut out = [0; ROOM - 1];
     let came = Simulator::new().answer(b"1000000064", &mut out);
     tally.hold("into 159 bytes", "refused 1", Told(came));
@@ -159,9 +192,12 @@ const SESSIONS: &[&[(&str, &str)]] = &[
     CAPACITOR, LAYERED, BANK, WORKED, UNUSED, LOSS, NO_ROOM, ALL_LEAKS, NONE_LEAKS,
 ];
 
-pub fn run(tally: &mut Tally<'_>) {
+pub(crate) fn run(tally: &mut Tally<'_>)
+    ensures trials { Further tally.old tally.new }
+{
     for lines in SESSIONS {
-        session(tally, lines);
+        session(tally, &mut Simulator::new(), lines);
     }
+    grants(tally);
     short(tally);
 }

@@ -4,6 +4,7 @@
 mod bank;
 mod call;
 mod capacitor;
+mod failure;
 mod floor;
 mod leakage;
 mod line;
@@ -13,10 +14,10 @@ mod shown;
 mod stack;
 mod tally;
 
-use std::io;
+use std::process::ExitCode;
 use tally::Tally;
 
-fn main(rt: HostRuntime) -> io::Result<()> {
+fn main(rt: HostRuntime) -> ExitCode {
     let mut tally = Tally::new(&rt);
     rate::run(&mut tally);
     capacitor::run(&mut tally);
@@ -25,5 +26,6 @@ fn main(rt: HostRuntime) -> io::Result<()> {
     leakage::run(&mut tally);
     report::run(&mut tally);
     line::run(&mut tally);
+    failure::run(&mut tally);
     tally.tell()
 }

@@ -1,4 +1,11 @@
 // Constant rates: their dues with the remainder kept, and the edges of their ranges.
+ghost use Rattle.std.specs.Prelude.{◌≡◌, MatchResult};
+ghost use Rattle.rates.specs.Rate.{Fits};
+ghost use Rattle.node.specs.declared.denial.Denial.TheVariants.{OutOfRange as Outside};
+ghost use Rattle.frame.specs.declared.fault.FrameFault.TheVariants.{Denied};
+ghost use Rattle.trials.specs.Tally.{Further};
+ghost use Rattle.trials.specs.Rate.{DuesOf};
+
 use crate::shown::Told;
 use crate::tally::Tally;
 use frame::FrameFault;
@@ -95,7 +102,9 @@ struct Dues {
 }
 
 impl Dues {
-    fn of(case: &Case) -> Result<Dues, FrameFault> {
+    fn of(case: &Case) -> Result<Dues, FrameFault>
+        ensures result { MatchResult result (DuesOf case.now) (λ fault. (Fits case.now.n case.now.d case.now.r → ⊥) × (fault ≡ Denied Outside)) }
+    {
         let rate = Rate::resume(case.n, case.d, case.r)?;
         Ok(Dues {
             rate,
@@ -117,7 +126,9 @@ impl fmt::Display for Dues {
     }
 }
 
-pub fn run(tally: &mut Tally<'_>) {
+pub(crate) fn run(tally: &mut Tally<'_>)
+    ensures trials { Further tally.old tally.new }
+{
     for case in RATES {
         let Case {
             n,

@@ -1,4 +1,7 @@
 // Reports of ticks: the shortest that is taken, one that is too short, and one with further places.
+ghost use Rattle.trials.specs.Tally.{Further};
+ghost use Rattle.trials.specs.Report.{TicksOnce};
+
 use crate::shown::Told;
 use crate::stack::made;
 use crate::tally::Tally;
@@ -25,7 +28,9 @@ impl fmt::Display for Ticked {
     }
 }
 
-fn tick(node: &mut Node<Capacitor>, report: &mut [u32]) -> Result<Ticked, FrameFault> {
+fn tick(node: &mut Node<Capacitor>, report: &mut [u32]) -> Result<Ticked, FrameFault>
+    ensures step { TicksOnce node.old report.new result node.new }
+{
     let (loss, intake) = node.tick(4, report)?;
     Ok(Ticked { loss, intake })
 }
@@ -38,7 +43,9 @@ fn report(
     expected: &str,
     place: usize,
     has: &str,
-) {
+)
+    ensures trials { Further tally.old tally.new }
+{
     let places = report.len();
     let came = Told(tick(node, report));
     tally.hold(format_args!("tick into {places} places"), expected, came);
@@ -47,7 +54,9 @@ fn report(
     }
 }
 
-pub fn run(tally: &mut Tally<'_>) {
+pub(crate) fn run(tally: &mut Tally<'_>)
+    ensures trials { Further tally.old tally.new }
+{
     let Some(capacitor) = made(tally, "capacitor of 10", Capacitor::new(10)) else {
         return;
     };

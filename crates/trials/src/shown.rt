@@ -6,7 +6,7 @@ use std::fmt::Display;
 
 // What was answered, or the number of the refusal. What refuses a number or a call refuses a frame too, under the same number.
 #[derive(Drop)]
-pub struct Told<T>(pub Result<T, FrameFault>);
+pub(crate) struct Told<T>(pub Result<T, FrameFault>);
 
 // By hand, as the ones after it: each is put together from a result, an option or bytes, which no derive does.
 impl<T: Display> fmt::Display for Told<T> {
@@ -23,7 +23,7 @@ impl<T: Display> fmt::Display for Told<T> {
 
 // The number by which a constructor refuses, or 0 where it makes what is asked.
 #[derive(Drop)]
-pub struct Refusal(pub Option<OutOfRange>);
+pub(crate) struct Refusal(pub Option<OutOfRange>);
 
 impl fmt::Display for Refusal {
     fn fmt<W: fmt::Write>(&self, f: &mut fmt::Formatter<W>) -> fmt::Result {
@@ -34,7 +34,7 @@ impl fmt::Display for Refusal {
 
 // An answer line, with its line feed as `$`.
 #[derive(Drop)]
-pub struct Written<'a>(pub &'a [u8]);
+pub(crate) struct Written<'a>(pub &'a [u8]);
 
 impl fmt::Display for Written<'_> {
     fn fmt<W: fmt::Write>(&self, f: &mut fmt::Formatter<W>) -> fmt::Result {

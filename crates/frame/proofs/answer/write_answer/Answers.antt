@@ -1,4 +1,4 @@
-use Rattle.std.proofs.Common.{◌+◌, length, rules, arith, sym, ap, ◌∙◌}
+use Rattle.std.proofs.Common.{◌+◌, rules, arith, sym, ap, ◌∙◌}
 use Rattle.frame.specs.Answer.{reply_bytes}
 use Rattle.frame.proofs.DigitsLaws.{length_written, line_written}
 use Rattle.frame.proofs.AnswerLaws.{length_reply}

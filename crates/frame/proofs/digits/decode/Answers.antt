@@ -1,5 +1,4 @@
-use Rattle.std.proofs.Common.{take, Ok, Err, sym, rules}
-use Rattle.frame.specs.Prefix.{contents}
+use Rattle.std.proofs.Common.{rules}
 use Rattle.frame.proofs.DigitsLaws.{line_from_cut}
 use Rattle.frame.proofs.digits.decode.Goals as goal
 

@@ -1,4 +1,4 @@
-use Rattle.std.proofs.Common.{◌∙◌, ◌≤◌, subst, sym, arith}
+use Rattle.std.proofs.Common.{◌≤◌, subst, sym, arith}
 use Rattle.frame.proofs.TableLaws.{value_at, worth_most}
 use Rattle.frame.proofs.digits.value.Goals as goal
 

@@ -1,0 +1,5 @@
+pub mod Tally
+pub mod Stack
+pub mod Call
+pub mod Rate
+pub mod Report
