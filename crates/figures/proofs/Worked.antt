@@ -21,8 +21,8 @@ pub worked : Figures
 worked = record {
   thirds = refl;
   halves = refl;
-  first_leak = (refl, refl, refl);
-  second_leak = (refl, refl, refl);
+  first_leak = (refl, refl);
+  second_leak = (refl, refl);
   cells_charged = refl;
   cells_drawn = refl;
   faults = (refl, refl);

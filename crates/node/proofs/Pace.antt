@@ -5,10 +5,10 @@ use lib.Arith.{digits_div}
 use Rattle.std.proofs.lemmas.Bool.{cases_eq, eq-eqb, ne_eqb}
 use Rattle.tables.specs.declared.taps.Tap.{Tap}
 use Rattle.tables.specs.Reserves.{ReserveRows, level_at, headroom}
-use Rattle.tables.specs.Taps.{tap_due, due_of, stepped, figure_of, Figures}
+use Rattle.tables.specs.Taps.{tap_due, stepped, figure_of, Figures}
 use Rattle.node.specs.Calls.{Event, History, refused, opened, closed, tapped, shut, granted, settled, parked, recalled, ticked, audited}
 use Rattle.node.specs.Rules.{before_taps}
-use Rattle.node.specs.Law.{standing_after, Tick, tick_of, opens, at_turn, sum_at_ticks, all_at_ticks, ever_since_opened, due_at, delivered, dues, ticks_since, Enough, Delivery}
+use Rattle.node.specs.Law.{standing_after, Tick, tick_of, opens, at_turn, sum_at_ticks, all_at_ticks, ever_since_opened, due_of, due_at, delivered, dues, ticks_since, Enough, Delivery}
 use Rattle.node.proofs.Places.{none_some, some_same, read_written, read_elsewhere, read_empty, get_or_map}
 use Rattle.node.proofs.Turns.{figure_at}
 use Rattle.node.proofs.Tale.{Tale}

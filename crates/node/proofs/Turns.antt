@@ -1,13 +1,12 @@
 -- The turns of the taps in one tick, one after the other.
-use Rattle.std.proofs.Common.{◌≡◌, ◌≢◌, ℕ, Bool, true, eqb, zero, suc, ◌+◌, ◌-◌, ◌<◌, ◌≤◌, false, List, [], ◌∷◌, ◌++◌, length, get_or, map, take, drop, set, replicate, is_some, Some, None, Option, sym, refl, ap, ◌∙◌, subst, arith}
-use Rattle.std.proofs.lemmas.List.{get_or-set_same, get_or-set_other, append_assoc, length-replicate, take_more, take_more_set, take-append-drop, length-append, length-take, length-drop, get_or-drop, map-append}
+use Rattle.std.proofs.Common.{◌≡◌, ℕ, zero, suc, ◌+◌, ◌-◌, ◌<◌, ◌≤◌, false, List, [], ◌∷◌, ◌++◌, length, get_or, map, take, drop, set, replicate, is_some, Some, None, sym, refl, ap, ◌∙◌, subst, arith}
+use Rattle.std.proofs.lemmas.List.{append_assoc, length-replicate, take_more, take_more_set, take-append-drop, length-append, length-take, length-drop, get_or-drop, map-append}
 use Rattle.std.proofs.Math.Seq.{take-append_seam, drop-append_seam}
-use Rattle.std.proofs.lemmas.Bool.{true≢false, eqb-true, eqb-false}
+use Rattle.std.proofs.lemmas.Bool.{true≢false}
 use Rattle.tables.specs.Rows.{present}
 use Rattle.tables.specs.Reserves.{ReserveRows}
-use Rattle.tables.specs.declared.taps.Tap.{Tap}
 use Rattle.tables.proofs.RowLaws.{Mapped, mapped_here, mapped_more}
-use Rattle.tables.specs.Taps.{TapRows, stepped, due_of, moves_of, figure_of, moved, after_moves, Figures, TapFits, Stepped, Turns}
+use Rattle.tables.specs.Taps.{TapRows, stepped, figure_of, moved, after_moves, Figures, TapFits, Ran, Turns}
 
 -- the turns of some taps, and then those of others
 pub moves_append : (rs : ReserveRows) (ts us : TapRows) (qs ps : List ℕ) → Figures rs ts qs → after_moves rs (ts ++ us) (qs ++ ps) ≡ after_moves (after_moves rs ts qs) us ps
@@ -39,68 +38,31 @@ idle_steps [] none = refl
 idle_steps (None ∷ ts) none = ap (λ xs. None ∷ xs) (idle_steps ts (λ k. none (suc k)))
 idle_steps (Some t ∷ ts) none = absurd (true≢false (none 0))
 
--- tap k's step, after those of the taps before it
-pub step_more : (ts : TapRows) (report : List ℕ) (k q : ℕ) (now now' : TapRows) → k < length ts → k < length report → TapFits (get_or ts k None) → Mapped stepped ts now k
-    → ((j : ℕ) → j < k → get_or report j 0 ≡ due_of (get_or ts j None)) → Stepped k now q now'
-    → Mapped stepped ts now' (k + 1) × ((j : ℕ) → j < k + 1 → get_or (set report k q) j 0 ≡ due_of (get_or ts j None))
-step_more ts report k q now now' lt room fits tapped dues step =
-    (subst (λ xs. Mapped stepped ts xs (k + 1)) (sym (step.taps fit)) (mapped_more stepped ts now k tapped None lt), λ j below. go j below (eqb j k) refl)
-  where
-    row : get_or now k None ≡ get_or ts k None
-    row = mapped_here stepped ts now k tapped None lt
-
-    fit : TapFits (get_or now k None)
-    fit = subst TapFits (sym row) fits
-
-    go : (j : ℕ) → j < k + 1 → (b : Bool) → eqb j k ≡ b → get_or (set report k q) j 0 ≡ due_of (get_or ts j None)
-    go j below true e =
-        let same : j ≡ k = eqb-true j k e in
-        subst (λ i. get_or (set report k q) i 0 ≡ due_of (get_or ts i None)) (sym same) (get_or-set_same report k q 0 room ∙ step.due fit ∙ ap due_of row)
-    go j below false e =
-        let other : j ≢ k = eqb-false j k e in
-        get_or-set_other report k j q 0 other ∙ dues j (omega (arith, below, other))
-
 -- what tap k's turn makes of the turns before it
-pub turn_more : (start : ReserveRows) (ts : TapRows) (report : List ℕ) (k q : ℕ) (rs rs' : ReserveRows) (o : Option Tap) → k < length ts → k < length report → o ≡ stepped (get_or ts k None)
-    → rs ≡ after_moves start (take k ts) (take k report) → Figures start (take k ts) (take k report) → q ≡ moves_of (due_of (get_or ts k None)) rs o → rs' ≡ moved rs o q
-    → (rs' ≡ after_moves start (take (k + 1) ts) (take (k + 1) (set report k q))) × Figures start (take (k + 1) ts) (take (k + 1) (set report k q))
-turn_more start ts report k q rs rs' o lt room is stands figures told moves =
-    let row : Option Tap = get_or ts k None in
-    let figure : q ≡ figure_of (after_moves start (take k ts) (take k report)) row = told ∙ ap (moves_of (due_of row) rs) is ∙ same_ends (due_of row) rs row ∙ ap (λ x. figure_of x row) stands in
-    let front : take (k + 1) ts ≡ take k ts ++ row ∷ [] = take_more ts k None lt in
+pub turn_more : (start : ReserveRows) (ts : TapRows) (report : List ℕ) (k q : ℕ) (rs rs' : ReserveRows) (now now' : TapRows) → k < length ts → k < length report → TapFits (get_or ts k None)
+    → Mapped stepped ts now k → rs ≡ after_moves start (take k ts) (take k report) → Figures start (take k ts) (take k report) → Ran k rs now q rs' now'
+    → Mapped stepped ts now' (k + 1) × (rs' ≡ after_moves start (take (k + 1) ts) (take (k + 1) (set report k q))) × Figures start (take (k + 1) ts) (take (k + 1) (set report k q))
+turn_more start ts report k q rs rs' now now' lt room fits tapped stands figures ran =
+    let row : get_or now k None ≡ get_or ts k None = mapped_here stepped ts now k tapped None lt in
+    let fit : TapFits (get_or now k None) = subst TapFits (sym row) fits in
+    let figure : q ≡ figure_of (after_moves start (take k ts) (take k report)) (get_or ts k None) = ran.figure fit ∙ ap (figure_of rs) row ∙ ap (λ x. figure_of x (get_or ts k None)) stands in
+    let front : take (k + 1) ts ≡ take k ts ++ get_or ts k None ∷ [] = take_more ts k None lt in
     let told : take (k + 1) (set report k q) ≡ take k report ++ q ∷ [] = take_more_set report k q room in (
-      moves ∙ ap (λ x. moved rs x q) is ∙ same_moves rs row q ∙ ap (λ x. moved x row q) stands
-          ∙ sym (moves_append start (take k ts) (row ∷ []) (take k report) (q ∷ []) figures)
+      subst (λ xs. Mapped stepped ts xs (k + 1)) (sym (ran.taps fit)) (mapped_more stepped ts now k tapped None lt),
+      ran.reserves fit ∙ ap (λ o. moved rs o q) row ∙ ap (λ x. moved x (get_or ts k None) q) stands
+          ∙ sym (moves_append start (take k ts) (get_or ts k None ∷ []) (take k report) (q ∷ []) figures)
           ∙ ap (λ xs. after_moves start xs (take k report ++ q ∷ [])) (sym front) ∙ ap (after_moves start (take (k + 1) ts)) (sym told),
       subst (λ xs. Figures start xs (take (k + 1) (set report k q))) (sym front)
-          (subst (Figures start (take k ts ++ row ∷ [])) (sym told) (figures_append start (take k ts) (row ∷ []) (take k report) (q ∷ []) figures (figure, tt))),
+          (subst (Figures start (take k ts ++ get_or ts k None ∷ [])) (sym told) (figures_append start (take k ts) (get_or ts k None ∷ []) (take k report) (q ∷ []) figures (figure, tt))),
     )
-  where
-    same_ends : (due : ℕ) (rs : ReserveRows) (t : Option Tap) → moves_of due rs (stepped t) ≡ moves_of due rs t
-    same_ends due rs None = refl
-    same_ends due rs (Some t) = refl
-
-    same_moves : (rs : ReserveRows) (t : Option Tap) (q : ℕ) → moved rs (stepped t) q ≡ moved rs t q
-    same_moves rs None q = refl
-    same_moves rs (Some t) q = refl
-
-none_past : (ts : TapRows) (end : ℕ) → ((k : ℕ) → end ≤ k → present ts k ≡ false) → (k : ℕ) → present (drop end ts) k ≡ false
-none_past ts end past k = ap is_some (get_or-drop end ts k None) ∙ past (end + k) (omega arith)
-
--- the steps of the taps below the end are those of all
-pub all_stepped : (ts now : TapRows) (end : ℕ) → ((k : ℕ) → end ≤ k → present ts k ≡ false) → Mapped stepped ts now end → now ≡ map stepped ts
-all_stepped ts now end past tapped =
-    sym (take-append-drop end now) ∙ ap (λ xs. xs ++ drop end now) tapped.0
-    ∙ ap (λ xs. map stepped (take end ts) ++ xs) (tapped.1 ∙ sym (idle_steps (drop end ts) (none_past ts end past)))
-    ∙ sym (map-append stepped (take end ts) (drop end ts)) ∙ ap (map stepped) (take-append-drop end ts)
 
 -- the turns of the taps below the end are those of all
 pub all_turned : (start : ReserveRows) (ts : TapRows) (report : List ℕ) (end : ℕ) (rs : ReserveRows) (now : TapRows) → length ts ≡ 96 → end ≤ 96 → ((k : ℕ) → end ≤ k → present ts k ≡ false)
-    → now ≡ map stepped ts → rs ≡ after_moves start (take end ts) (take end report) → Figures start (take end ts) (take end report)
+    → Mapped stepped ts now end → rs ≡ after_moves start (take end ts) (take end report) → Figures start (take end ts) (take end report)
     → Turns start ts (take end report ++ replicate (96 - end) 0) rs now
-all_turned start ts report end rs now size within past steps stands figures =
+all_turned start ts report end rs now size within past tapped stands figures =
     let rest : TapRows = drop end ts in
-    let none : (k : ℕ) → present rest k ≡ false = none_past ts end past in
+    let none : (k : ℕ) → present rest k ≡ false = λ k. ap is_some (get_or-drop end ts k None) ∙ past (end + k) (omega arith) in
     let count : length rest ≡ 96 - end = omega (arith, length-drop end ts, size) in
     let zeros : List ℕ = replicate (96 - end) 0 in
     let whole : take end ts ++ rest ≡ ts = take-append-drop end ts in
@@ -109,7 +71,8 @@ all_turned start ts report end rs now size within past steps stands figures =
       figures = subst (λ xs. Figures start xs (take end report ++ zeros)) whole (figures_append start (take end ts) rest (take end report) zeros figures idle);
       reserves = stands ∙ sym (idle_moves (after_moves start (take end ts) (take end report)) rest zeros none)
           ∙ sym (moves_append start (take end ts) rest (take end report) zeros figures) ∙ ap (λ xs. after_moves start xs (take end report ++ zeros)) whole;
-      taps = steps;
+      taps = sym (take-append-drop end now) ∙ ap (λ xs. xs ++ drop end now) tapped.0 ∙ ap (λ xs. map stepped (take end ts) ++ xs) (tapped.1 ∙ sym (idle_steps rest none))
+          ∙ sym (map-append stepped (take end ts) rest) ∙ ap (map stepped) whole;
     }
 
 -- the report of a tick: the figures of the taps below the end, and 0 up to the 96th place

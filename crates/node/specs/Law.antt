@@ -19,7 +19,7 @@ use Rattle.std.specs.Prelude.{◌≡◌, ℕ, ◌+◌, ◌-◌, ◌*◌, ◌/◌
 use Rattle.tables.specs.declared.taps.Tap.{Tap}
 use Rattle.tables.specs.declared.grant.Grant.{Grant}
 use Rattle.tables.specs.Reserves.{ReserveRows, level_at, headroom}
-use Rattle.tables.specs.Taps.{TapRows, tap_due, due_of, after_moves}
+use Rattle.tables.specs.Taps.{TapRows, tap_due, after_moves}
 use Rattle.node.specs.declared.totals.Totals.{Totals}
 use Rattle.node.specs.Standing.{Standing, born}
 use Rattle.node.specs.Calls.{Event, History, refused, opened, closed, tapped, shut, granted, settled, parked, recalled, ticked, audited}
@@ -83,6 +83,10 @@ since_opened birth f k (e ∷ h) = cond (opens k e) 0 (sum_at_ticks f (standing_
 abbrev pub ever_since_opened : ℕ → (Standing → Tick → Type 0) → ℕ → History → Type 0
 ever_since_opened birth P k [] = Unit {0}
 ever_since_opened birth P k (e ∷ h) = cond (opens k e) (Unit {0}) (all_at_ticks P (standing_after birth h) (tick_of e) × ever_since_opened birth P k h)
+
+abbrev pub due_of : Option Tap → ℕ
+due_of None = 0
+due_of (Some t) = tap_due t
 
 abbrev pub due_at : ℕ → Standing → Tick → ℕ
 due_at k s t = due_of (slice_index_or s.taps k None)

@@ -1,7 +1,7 @@
 // A node: reserves, taps and grants over a store of harvested energy.
 ghost use Rattle.std.specs.Prelude.{◌≡◌, ◌-◌, ◌≤◌, true, false, length, take, drop, IfOk, IfErr, OnErr, OnOk};
 ghost use Rattle.store.specs.Meaning.{Meaning};
-ghost use Rattle.tables.specs.Taps.{AllFit, DuesTold, Turns};
+ghost use Rattle.tables.specs.Taps.{AllFit, Turns};
 ghost use Rattle.node.specs.Calls.{settle as settlement, park as park_call, recall as recall_call, audited};
 ghost use Rattle.node.specs.Rules.{turned_down};
 ghost use Rattle.node.specs.Runs.{Lawful};
@@ -43,31 +43,16 @@ fn draw<S: Store>(store: &mut S, task: u8, reserve: u8, amount: u32) -> Result<(
     })
 }
 
-// Lets each tap make its step: how far the open taps reach, and what each of them is due, in its place of the report.
-fn step_taps(taps: &mut Taps, report: &mut [u32]) -> usize
-    requires { 96 ≤ length report.old }
-    ensures end { result ≡ taps.old.end }
-    ensures dues { AllFit taps.old.rows → DuesTold taps.old.rows result report.new taps.new.rows }
-    ensures len { length report.new ≡ length report.old }
-    ensures further { drop 96 report.new ≡ drop 96 report.old }
-{
-    let end = taps.end();
-    for k in 0..end {
-        report[k] = taps.step(k);
-    }
-    end
-}
-
 // The turns of all taps, in ascending number: what each moved, and 0 where none is open. The rules fix this order, and a
-// loop with an index for it. No due depends on a level, so that all are worked out before the first turn.
+// loop with an index for it.
 fn run_taps(taps: &mut Taps, reserves: &mut Reserves, report: &mut [u32])
     requires { 96 ≤ length report.old }
     ensures turns { AllFit taps.old.rows → Turns reserves.old.rows taps.old.rows (take 96 report.new) reserves.new.rows taps.new.rows }
     ensures further { drop 96 report.new ≡ drop 96 report.old }
 {
-    let end = step_taps(taps, report);
+    let end = taps.end();
     for k in 0..end {
-        report[k] = taps.run(k, report[k], reserves);
+        report[k] = taps.run(k, reserves);
     }
     report[end..TAPS].fill(0);
 }
@@ -172,7 +157,7 @@ impl<S: Store> Node<S> {
         ensures judged { (m : Meaning) → turned_down m (standing_of self.old) (settlement slip.serial slip.amount used) ≡ verdict (settling slip used result) }
         ensures same { IfErr result (λ e. (e.1 ≡ slip) × (self.new ≡ self.old)) }
     {
-        let Some(found) = self.out(&slip) else {
+        let Some(grant) = self.out(&slip) else {
             return Err((Denial::NoSuchGrant, slip));
         };
         if slip.amount < used {
@@ -182,8 +167,8 @@ impl<S: Store> Node<S> {
         let unused = amount - used;
         let taken = self.store.charge(unused);
         let lost = unused.saturating_sub(taken);
-        self.reserves.fill_up(found.grant.reserve, taken);
-        self.grants.remove(found.place, serial);
+        self.reserves.fill_up(grant.reserve, taken);
+        self.grants.remove(serial);
         self.books.settle(amount, used, lost);
         Ok(lost)
     }
@@ -195,11 +180,11 @@ impl<S: Store> Node<S> {
         ensures same { IfErr result (λ e. (e.1 ≡ slip) × (self.new ≡ self.old)) }
         ensures after { IfOk result (λ serial. (serial ≡ slip.serial) × Marked true serial self.old self.new) }
     {
-        let Some(found) = self.out(&slip) else {
+        let Some(_) = self.out(&slip) else {
             return Err((Denial::NoSuchGrant, slip));
         };
         let Slip { serial, amount: _ } = slip;
-        self.grants.mark(found.place, serial, true);
+        self.grants.mark(serial, true);
         Ok(serial)
     }
 
@@ -211,11 +196,11 @@ impl<S: Store> Node<S> {
         ensures slip { IfOk result (λ slip. (slip.serial ≡ serial) × IsOut slip self.new) }
         ensures after { OnOk result (Marked false serial self.old self.new) }
     {
-        let found = self.may_recall(task, serial)?;
-        self.grants.mark(found.place, serial, false);
+        let grant = self.may_recall(task, serial)?;
+        self.grants.mark(serial, false);
         Ok(Slip {
             serial,
-            amount: found.grant.amount,
+            amount: grant.amount,
         })
     }
 

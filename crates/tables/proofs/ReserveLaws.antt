@@ -27,7 +27,7 @@ lower_none [] i = refl
 lower_none (r ∷ rs) zero = ap (λ o. o ∷ rs) (ap (λ v. relevel v r) (let e : level_in r - 0 ≡ level_in r = omega arith in e) ∙ level_same r)
 lower_none (r ∷ rs) (suc i) = ap (λ xs. r ∷ xs) (lower_none rs i)
 
--- what is moved from a reserve to itself, or if nothing is moved, all stays as it was
+-- what is moved from a reserve to itself leaves all as it was
 pub moved_back : (rs : ReserveRows) (i q : ℕ) → q ≤ level_at rs i → give (lower rs i q) i q ≡ rs
 moved_back [] i q le = refl
 moved_back (r ∷ rs) zero q le = ap (λ o. o ∷ rs) (back r le)
@@ -36,14 +36,6 @@ moved_back (r ∷ rs) zero q le = ap (λ o. o ∷ rs) (back r le)
     back None le = refl
     back (Some x) le = ap (λ v. relevel v (Some x)) (let e : x.level - q + q ≡ x.level = omega (arith, le) in e)
 moved_back (r ∷ rs) (suc i) q le = ap (λ xs. r ∷ xs) (moved_back rs i q le)
-
-pub moved_nothing : (rs : ReserveRows) (i j : ℕ) → give (lower rs i 0) j 0 ≡ rs
-moved_nothing rs i j = ap (λ xs. give xs j 0) (lower_none rs i) ∙ give_none rs j
-  where
-    give_none : (xs : ReserveRows) (k : ℕ) → give xs k 0 ≡ xs
-    give_none [] k = refl
-    give_none (x ∷ xs) zero = ap (λ o. o ∷ xs) (ap (λ v. relevel v x) (let e : level_in x + 0 ≡ level_in x = omega arith in e) ∙ level_same x)
-    give_none (x ∷ xs) (suc k) = ap (λ ys. x ∷ ys) (give_none xs k)
 
 pub charge_down_nothing : (n q : ℕ) (rs : ReserveRows) → q ≡ 0 → charge_down n q rs ≡ rs
 unfolding charge_down

@@ -4,18 +4,15 @@
 --     tap_due t               what the tap t is due at a tick
 --     stepped o               the row o after a tick: its remainder has advanced
 --     ends_at i o             the tap o begins or ends at reserve i
---     due_of o                what the tap o is due, 0 where none is open
---     moves_of due rs o       what the tap o moves at its turn, where so much is due and the reserves stand as rs
---     figure_of rs o          the same of its own due
+--     figure_of rs o          what the tap o moves at its turn, where the reserves stand as rs
 --     moved rs o q            the reserves after the tap o moved q
 --     after_moves rs ts qs    the reserves after the taps ts, in their order, moved the figures qs
 --     Figures rs ts qs        the figures are those of the taps, each at its turn
 --     TapFits o               the row o, if one is there, has a rate
---     Stepped k ts q ts'      what tap k was due at a tick, and the taps after its remainder advanced
+--     Ran k rs ts q rs' ts'   what tap k's turn moved, and what it left
 --     AllFit ts               there are 96 rows, and every open tap has a rate
---     DuesTold ts n qs ts'    what the taps below n were due at a tick, and the taps after all remainders advanced
 --     Turns rs ts qs rs' ts'  what the turns of all taps moved, and what they left
-use Rattle.std.specs.Prelude.{◌≡◌, ℕ, ◌<◌, min, Bool, false, ◌||◌, List, [], ◌∷◌, length, map, replicate, Some, None, Option, ◌==◌, slice_index, slice_index_or, slice_set}
+use Rattle.std.specs.Prelude.{◌≡◌, ℕ, min, Bool, false, ◌||◌, List, [], ◌∷◌, length, map, replicate, Some, None, Option, ◌==◌, slice_index_or, slice_set}
 use Rattle.rates.specs.Rate.{Fits, due, remainder}
 use Rattle.tables.specs.declared.taps.Tap.{Tap}
 use Rattle.tables.specs.Reserves.{ReserveRows, level_at, headroom, give, lower}
@@ -37,17 +34,13 @@ abbrev pub ends_at : ℕ → Option Tap → Bool
 ends_at i None = false
 ends_at i (Some t) = t.source == i || t.sink == i
 
-abbrev pub due_of : Option Tap → ℕ
-due_of None = 0
-due_of (Some t) = tap_due t
-
--- the least of what is due, the source's level and the sink's headroom
-abbrev pub moves_of : ℕ → ReserveRows → Option Tap → ℕ
-moves_of due rs None = 0
-moves_of due rs (Some t) = min due (min (level_at rs t.source) (headroom rs t.sink))
+-- the least of its due, the source's level and the sink's headroom
+abbrev pub moves_at : ReserveRows → Tap → ℕ
+moves_at rs t = min (tap_due t) (min (level_at rs t.source) (headroom rs t.sink))
 
 abbrev pub figure_of : ReserveRows → Option Tap → ℕ
-figure_of rs o = moves_of (due_of o) rs o
+figure_of rs None = 0
+figure_of rs (Some t) = moves_at rs t
 
 abbrev pub moved : ReserveRows → Option Tap → ℕ → ReserveRows
 moved rs None q = rs
@@ -69,20 +62,16 @@ abbrev pub TapFits : Option Tap → Type 0
 TapFits None = Unit {0}
 TapFits (Some t) = Fits t.n t.d t.r
 
--- a row from which no rate can be made is due nothing
-pub record Stepped (k : ℕ) (ts : TapRows) (q : ℕ) (ts' : TapRows) : Type 0 where
-  pub due : TapFits (slice_index_or ts k None) → q ≡ due_of (slice_index_or ts k None)
+-- the due moves as far as it can, and lapses otherwise; a row from which no rate can be made moves nothing
+pub record Ran (k : ℕ) (rs : ReserveRows) (ts : TapRows) (q : ℕ) (rs' : ReserveRows) (ts' : TapRows) : Type 0 where
+  pub figure : TapFits (slice_index_or ts k None) → q ≡ figure_of rs (slice_index_or ts k None)
+  pub reserves : TapFits (slice_index_or ts k None) → rs' ≡ moved rs (slice_index_or ts k None) q
   pub taps : TapFits (slice_index_or ts k None) → ts' ≡ slice_set ts k (stepped (slice_index_or ts k None))
-  pub idle : (TapFits (slice_index_or ts k None) → ⊥) → (q ≡ 0) × (ts' ≡ ts)
+  pub idle : (TapFits (slice_index_or ts k None) → ⊥) → (q ≡ 0) × (rs' ≡ rs) × (ts' ≡ ts)
 
 abbrev pub AllFit : TapRows → Type 0
 AllFit ts = (length ts ≡ 96) × ((k : ℕ) → TapFits (slice_index_or ts k None))
 
-pub record DuesTold (ts : TapRows) (n : ℕ) (qs : List ℕ) (ts' : TapRows) : Type 0 where
-  pub dues : (k : ℕ) → k < n → slice_index qs k ≡ due_of (slice_index_or ts k None)
-  pub taps : ts' ≡ map stepped ts
-
--- what is due moves as far as it can, and lapses otherwise
 pub record Turns (rs : ReserveRows) (ts : TapRows) (qs : List ℕ) (rs' : ReserveRows) (ts' : TapRows) : Type 0 where
   pub figures : Figures rs ts qs
   pub reserves : rs' ≡ after_moves rs ts qs

@@ -15,10 +15,3 @@ pub struct Grants {
     serials: u32,
     ghost rising: { Rising 0 serials rows.items } by { rising_prop 0 serials rows.items },
 }
-
-// An open grant, and where it stands among the others. The place is a hint: whoever is handed it looks again.
-#[derive(Clone, Copy)]
-pub struct Found {
-    pub place: usize,
-    pub grant: Grant,
-}

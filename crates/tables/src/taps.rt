@@ -2,7 +2,8 @@
 ghost use Rattle.std.specs.Prelude.{◌≡◌, ◌-◌, min, Some, None, MatchOption, slice_index_or, slice_set};
 ghost use Rattle.rates.specs.Rate.{Fits};
 ghost use Rattle.std.specs.List.{list_any};
-ghost use Rattle.tables.specs.Taps.{first_taps, tap_due, stepped, ends_at, Stepped, moves_of, moved};
+ghost use Rattle.tables.specs.Reserves.{level_at, headroom, give, lower};
+ghost use Rattle.tables.specs.Taps.{first_taps, tap_due, stepped, ends_at, Ran};
 
 use crate::reserves::Reserves;
 use crate::table::Table;
@@ -42,6 +43,25 @@ fn touches(row: Option<Tap>, i: u8) -> bool
     row.is_some_and(|tap| tap.source == i || tap.sink == i)
 }
 
+// Moves what is due, as far as the source has it and the sink has room for it: what it moved.
+fn carry(reserves: &mut Reserves, source: u8, sink: u8, due: u32) -> u32
+    ensures result { result ≡ min due (min (level_at reserves.old.rows source) (headroom reserves.old.rows sink)) }
+    ensures after { reserves.new.rows ≡ give (lower reserves.old.rows source result) sink result }
+{
+    let Some(from) = reserves.get(source) else {
+        return 0;
+    };
+    let Some(to) = reserves.get(sink) else {
+        return 0;
+    };
+    let moved = due.min(from.level).min(to.headroom());
+    if source != sink {
+        reserves.relevel(usize::from(source), from.level - moved);
+        reserves.relevel(usize::from(sink), to.level + moved);
+    }
+    moved
+}
+
 impl Table<Tap, TAPS> {
     pub fn new() -> Taps
         ensures result { result.rows ≡ first_taps }
@@ -56,9 +76,9 @@ impl Table<Tap, TAPS> {
         self.rows.iter().any(|row| touches(*row, i))
     }
 
-    // What tap k is due at a tick, 0 where none is open or it has no rate; its remainder advances.
-    pub fn step(&mut self, k: usize) -> u32
-        ensures stepped { Stepped k self.old.rows result self.new.rows }
+    // The turn of tap k at a tick: what it moved.
+    pub fn run(&mut self, k: usize, reserves: &mut Reserves) -> u32
+        ensures ran { Ran k reserves.old.rows self.old.rows result reserves.new.rows self.new.rows }
     {
         let Some(tap) = self.at(k) else {
             return 0;
@@ -67,28 +87,6 @@ impl Table<Tap, TAPS> {
             return 0;
         };
         self.replace(k, after);
-        due
-    }
-
-    // The turn of tap k: moves what is due, as far as the source has it and the sink has room for it. What it moved.
-    pub fn run(&self, k: usize, due: u32, reserves: &mut Reserves) -> u32
-        ensures result { result ≡ moves_of due reserves.old.rows (slice_index_or self.now.rows k None) }
-        ensures after { reserves.new.rows ≡ moved reserves.old.rows (slice_index_or self.now.rows k None) result }
-    {
-        let Some(tap) = self.at(k) else {
-            return 0;
-        };
-        let Some(from) = reserves.get(tap.source) else {
-            return 0;
-        };
-        let Some(to) = reserves.get(tap.sink) else {
-            return 0;
-        };
-        let moved = due.min(from.level).min(to.headroom());
-        if tap.source != tap.sink {
-            reserves.relevel(usize::from(tap.source), from.level - moved);
-            reserves.relevel(usize::from(tap.sink), to.level + moved);
-        }
-        moved
+        carry(reserves, tap.source, tap.sink, due)
     }
 }

@@ -1,9 +1,9 @@
 // How grants are added, found, marked and removed.
-ghost use Rattle.std.specs.Prelude.{◌≡◌, ◌+◌, ◌-◌, ◌^◌, ◌≤◌, min, false, [], length, None, Some, MatchOption};
+ghost use Rattle.std.specs.Prelude.{◌≡◌, ◌+◌, ◌-◌, ◌^◌, ◌≤◌, min, false, [], length, MatchOption};
 ghost use Rattle.std.specs.List.{list_any};
 ghost use Rattle.tables.specs.Grants.{open_in, Nowhere, StandsAt, grant_of, of_reserve, added, without, marked};
 
-use super::{Found, GRANTS, Grants};
+use super::{GRANTS, Grants};
 use crate::grant::Grant;
 use arrayvec::ArrayVec;
 
@@ -45,25 +45,11 @@ impl Grants {
         None
     }
 
-    // The same, where it was found before: that place is looked at first.
-    fn again(&self, place: usize, serial: u32) -> Option<usize>
-        ensures result { MatchOption result (Nowhere serial (open_in self.now)) (StandsAt serial (open_in self.now)) }
-    {
-        let rows = self.rows.as_slice();
-        if place < rows.len() && rows[place].serial == serial {
-            return Some(place);
-        }
-        self.place(serial)
-    }
-
-    pub fn find(&self, serial: u32) -> Option<Found>
-        ensures result { MatchOption result (grant_of serial (open_in self.now) ≡ None) (λ f. grant_of serial (open_in self.now) ≡ Some f.grant) }
+    pub fn find(&self, serial: u32) -> Option<Grant>
+        ensures result { result ≡ grant_of serial (open_in self.now) }
     {
         let place = self.place(serial)?;
-        Some(Found {
-            place,
-            grant: self.rows.as_slice()[place],
-        })
+        Some(self.rows.as_slice()[place])
     }
 
     // Some open grant is of this reserve.
@@ -92,12 +78,12 @@ impl Grants {
         serial
     }
 
-    // The grants but for the one with this serial, which was found at this place.
-    pub fn remove(&mut self, place: usize, serial: u32)
+    // The grants but for the one with this serial.
+    pub fn remove(&mut self, serial: u32)
         ensures after { open_in self.new ≡ without serial (open_in self.old) }
         ensures serials { self.new.serials ≡ self.old.serials }
     {
-        let Some(place) = self.again(place, serial) else {
+        let Some(place) = self.place(serial) else {
             return;
         };
         let rows = self.rows.as_mut_slice();
@@ -105,12 +91,12 @@ impl Grants {
         let _ = self.rows.pop();
     }
 
-    // The grant with this serial, which was found at this place, is parked, or is out.
-    pub fn mark(&mut self, place: usize, serial: u32, parked: bool)
+    // The grant with this serial is parked, or is out.
+    pub fn mark(&mut self, serial: u32, parked: bool)
         ensures after { open_in self.new ≡ marked parked serial (open_in self.old) }
         ensures serials { self.new.serials ≡ self.old.serials }
     {
-        if let Some(place) = self.again(place, serial) {
+        if let Some(place) = self.place(serial) {
             let rows = self.rows.as_mut_slice();
             rows[place].parked = parked;
         }
