@@ -47,4 +47,5 @@ battery_store = record {
   coming_loss = λ b. min 1 b.cell.held;
   after = battery_after;
   sound = BatterySound;
+  KIND = 66;
 }

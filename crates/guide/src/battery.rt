@@ -45,6 +45,8 @@ impl Store for Battery {
 
     const KIND: u8 = b'B';
 
+    ghost KIND = { battery_store.KIND };
+
     ghost means = { battery_laws };
 
     fn held(&self) -> u32 {

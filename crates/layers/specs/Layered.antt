@@ -52,4 +52,5 @@ module _ {S L : Type 0} (G : Ghosts S) (H : LayerGhosts L) where
     coming_loss = layered_loss;
     after = layered_after;
     sound = LayeredSound;
+    KIND = H.KIND;
   }

@@ -26,6 +26,8 @@ impl<S: Store, L: Layer> Store for Layered<S, L> {
 
     const KIND: u8 = L::KIND;
 
+    ghost KIND = { L.Layer.KIND };
+
     ghost means = { λ y s. sound_more _ _ (S.Store.means y.below s.0) (L.Layer.lettered) (L.Layer.under y.layer _ s.1) };
 
     fn held(&self) -> u32 {

@@ -73,4 +73,5 @@ bank_store = record {
   coming_loss = λ b. 0;
   after = bank_after;
   sound = BankSound;
+  KIND = 70;
 }

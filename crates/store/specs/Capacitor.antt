@@ -47,4 +47,5 @@ capacitor_store = record {
   coming_loss = λ c. 0;
   after = capacitor_after;
   sound = CapacitorSound;
+  KIND = 67;
 }

@@ -60,6 +60,8 @@ impl Store for Bank {
 
     const KIND: u8 = b'F';
 
+    ghost KIND = { bank_store.KIND };
+
     ghost means = { bank_laws };
 
     fn held(&self) -> u32 {

@@ -43,6 +43,8 @@ impl Store for Capacitor {
 
     const KIND: u8 = b'C';
 
+    ghost KIND = { capacitor_store.KIND };
+
     ghost means = { capacitor_laws };
 
     fn held(&self) -> u32 {

@@ -25,6 +25,8 @@ pub trait Store {
     // The letter of this kind of store or layer.
     const KIND: u8;
 
+    ghost KIND: { ℕ };
+
     fn held(&self) -> u32
         ensures result { sound self.now → result ≡ held self.now };
 
