@@ -49,7 +49,7 @@ impl<T: Copy, const N: usize> Table<T, N> {
         }
     }
 
-    // From here on no row stands.
+    // From here on no row stands. That it is no more than N is written out for the compiler, which then tests no place.
     pub fn end(&self) -> usize
         ensures result { result ≡ self.now.end }
     {

@@ -32,12 +32,17 @@ impl Grants {
         self.serials
     }
 
-    // Where the grant with this serial stands. The newest is looked at first: it is the one that is parked.
+    // Where the grant with this serial stands. The newest is looked at first, since it is parked when it is given; then the
+    // oldest.
     fn place(&self, serial: u32) -> Option<usize>
         ensures result { MatchOption result (Nowhere serial (open_in self.now)) (StandsAt serial (open_in self.now)) }
     {
         let rows = self.rows.as_slice();
-        for i in (0..rows.len()).rev() {
+        let len = rows.len();
+        if len > 0 && rows[len - 1].serial == serial {
+            return Some(len - 1);
+        }
+        for i in 0..len {
             if rows[i].serial == serial {
                 return Some(i);
             }
