@@ -1,14 +1,15 @@
 // A table of numbered places, each of which is empty or holds a row.
-ghost use Rattle.std.specs.Prelude.{◌≡◌, ℕ, ◌≤◌, false, cond, Some, None, replicate, slice_index_or, slice_set};
+ghost use Rattle.std.specs.Prelude.{◌≡◌, ℕ, ◌-◌, ◌<◌, ◌≤◌, true, false, cond, length, Some, None, replicate, slice_index_or, slice_set};
 ghost use Rattle.tables.specs.Rows.{present};
 
-// No row stands from the end on.
+// No row stands from the end on, and one stands just before it, if the end is not 0.
 #[derive(Drop)]
 pub struct Table<T, const N: usize> {
     pub(crate) rows: [Option<T>; N],
     pub(crate) end: usize,
     ghost within: { end ≤ N },
     ghost past: { (k : ℕ) → end ≤ k → present rows k ≡ false },
+    ghost last: { 0 < end → present rows (end - 1) ≡ true },
 }
 
 impl<T: Copy, const N: usize> Table<T, N> {
@@ -74,18 +75,21 @@ impl<T: Copy, const N: usize> Table<T, N> {
         let place = usize::from(i);
         if place < self.rows.len() {
             self.rows[place] = None;
-            self.shrink();
+            self.end = end_below(&self.rows, self.end);
         }
     }
+}
 
-    // The end comes down to the last row.
-    fn shrink(&mut self)
-        ensures same { self.new.rows ≡ self.old.rows }
-    {
-        let mut end = self.end;
-        while end > 0 && self.rows[end - 1].is_none() {
-            end -= 1;
-        }
-        self.end = end;
+// Past the last row that stands below an end.
+fn end_below<T>(rows: &[Option<T>], end: usize) -> usize
+    requires { end ≤ length rows.now }
+    ensures within { result ≤ end }
+    ensures past { (k : ℕ) → result ≤ k → k < end → present rows.now k ≡ false }
+    ensures last { 0 < result → present rows.now (result - 1) ≡ true }
+{
+    let mut end = end;
+    while end > 0 && rows[end - 1].is_none() {
+        end -= 1;
     }
+    end
 }
