@@ -2,7 +2,6 @@
 use Rattle.std.proofs.Common.{refl, ◌≡◌, ℕ, List, [], IfErr, Ok, Err, Result, sym, ap, subst}
 use Rattle.store.specs.declared.store.Store.{Ghosts}
 use Rattle.rates.specs.declared.amount.OutOfRange.{OutOfRange as Outside}
-
 use Rattle.node.specs.declared.node.Node.{Node}
 use Rattle.node.specs.Calls.{Event, History}
 use Rattle.node.specs.Node.{Newborn, Extends, SoundNode}
