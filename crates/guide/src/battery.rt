@@ -58,7 +58,7 @@ impl Store for Battery {
     }
 
     fn available(&self) -> u32 {
-        self.cell.held()
+        self.held()
     }
 
     fn height(&self) -> u8 {

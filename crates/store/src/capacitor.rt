@@ -56,7 +56,7 @@ impl Store for Capacitor {
     }
 
     fn available(&self) -> u32 {
-        self.cell.held()
+        self.held()
     }
 
     fn height(&self) -> u8 {
