@@ -143,7 +143,7 @@ fn tap(fields: &[u8]) -> Result<Frame, FrameFault>
                 source: *source,
                 sink: *sink,
                 n: u32::from_be_bytes([*n3, *n2, *n1, *n0]),
-                d: u32::from(u16::from_be_bytes([*d1, *d0])),
+                d: u16::from_be_bytes([*d1, *d0]),
             },
         }),
         _ => Err(FrameFault::UnknownFrame),

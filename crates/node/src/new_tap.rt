@@ -5,5 +5,5 @@ pub struct NewTap {
     pub source: u8,
     pub sink: u8,
     pub n: u32,
-    pub d: u32,
+    pub d: u16,
 }

@@ -1,7 +1,7 @@
 -- Laws of the reserves.
-use Rattle.std.proofs.Common.{◌≡◌, ℕ, zero, suc, ◌+◌, ◌-◌, ◌<◌, ◌≤◌, min, [], ◌∷◌, Some, None, Option, refl, ap, ◌∙◌, arith}
+use Rattle.std.proofs.Common.{◌≡◌, ℕ, zero, suc, ◌+◌, ◌-◌, ◌<◌, min, [], ◌∷◌, Some, None, Option, refl, ap, ◌∙◌, arith}
 use Rattle.tables.specs.declared.reserves.Reserve.{Reserve}
-use Rattle.tables.specs.Reserves.{ReserveRows, level_in, level_at, relevel, give, lower, down_from, charge_in_turn, charge_loss}
+use Rattle.tables.specs.Reserves.{ReserveRows, level_in, level_at, relevel, put_level, give, lower, down_from, charge_in_turn, charge_loss}
 
 -- a loss taken from the reserves n down to 1
 unfoldable pub charge_down : ℕ → ℕ → ReserveRows → ReserveRows
@@ -21,21 +21,20 @@ level_same : (o : Option Reserve) → relevel (level_in o) o ≡ o
 level_same None = refl
 level_same (Some x) = refl
 
+level_put : (rs : ReserveRows) (i : ℕ) → put_level rs i (level_at rs i) ≡ rs
+level_put [] i = refl
+level_put (r ∷ rs) zero = ap (λ o. o ∷ rs) (level_same r)
+level_put (r ∷ rs) (suc i) = ap (λ xs. r ∷ xs) (level_put rs i)
+
 -- nothing is left to take
 pub lower_none : (rs : ReserveRows) (i : ℕ) → lower rs i 0 ≡ rs
-lower_none [] i = refl
-lower_none (r ∷ rs) zero = ap (λ o. o ∷ rs) (ap (λ v. relevel v r) (let e : level_in r - 0 ≡ level_in r = omega arith in e) ∙ level_same r)
-lower_none (r ∷ rs) (suc i) = ap (λ xs. r ∷ xs) (lower_none rs i)
+lower_none rs i = let e : level_at rs i - 0 ≡ level_at rs i = omega arith in ap (put_level rs i) e ∙ level_put rs i
 
--- what is moved from a reserve to itself leaves all as it was
-pub moved_back : (rs : ReserveRows) (i q : ℕ) → q ≤ level_at rs i → give (lower rs i q) i q ≡ rs
-moved_back [] i q le = refl
-moved_back (r ∷ rs) zero q le = ap (λ o. o ∷ rs) (back r le)
-  where
-    back : (o : Option Reserve) → q ≤ level_in o → relevel (level_in (relevel (level_in o - q) o) + q) (relevel (level_in o - q) o) ≡ o
-    back None le = refl
-    back (Some x) le = ap (λ v. relevel v (Some x)) (let e : x.level - q + q ≡ x.level = omega (arith, le) in e)
-moved_back (r ∷ rs) (suc i) q le = ap (λ xs. r ∷ xs) (moved_back rs i q le)
+-- nothing moves
+pub moved_none : (rs : ReserveRows) (i j : ℕ) → give (lower rs i 0) j 0 ≡ rs
+moved_none rs i j =
+    let e : level_at rs j + 0 ≡ level_at rs j = omega arith in
+    ap (λ xs. give xs j 0) (lower_none rs i) ∙ ap (put_level rs j) e ∙ level_put rs j
 
 pub charge_down_nothing : (n q : ℕ) (rs : ReserveRows) → q ≡ 0 → charge_down n q rs ≡ rs
 unfolding charge_down

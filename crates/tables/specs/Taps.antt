@@ -2,6 +2,7 @@
 --     TapRows                 the 96 rows
 --     first_taps              none is open
 --     tap_due t               what the tap t is due at a tick
+--     with_remainder r o      the row o with the remainder r, if it is open
 --     stepped o               the row o after a tick: its remainder has advanced
 --     ends_at i o             the tap o begins or ends at reserve i
 --     figure_of rs o          what the tap o moves at its turn, where the reserves stand as rs
@@ -26,9 +27,13 @@ first_taps = replicate 96 None
 abbrev pub tap_due : Tap → ℕ
 tap_due t = due t.n t.d t.r
 
+abbrev pub with_remainder : ℕ → Option Tap → Option Tap
+with_remainder r None = None
+with_remainder r (Some t) = Some (record { source = t.source; sink = t.sink; n = t.n; d = t.d; r = r })
+
 abbrev pub stepped : Option Tap → Option Tap
 stepped None = None
-stepped (Some t) = Some (record { source = t.source; sink = t.sink; n = t.n; d = t.d; r = remainder t.n t.d t.r })
+stepped (Some t) = with_remainder (remainder t.n t.d t.r) (Some t)
 
 abbrev pub ends_at : ℕ → Option Tap → Bool
 ends_at i None = false

@@ -1,11 +1,11 @@
 // The constant taps of a node, by number.
-ghost use Rattle.std.specs.Prelude.{◌≡◌, ◌-◌, min, Some, None, MatchOption, slice_index_or, slice_set};
-ghost use Rattle.rates.specs.Rate.{Fits};
+ghost use Rattle.std.specs.Prelude.{◌≡◌, ◌-◌, min, None, MatchOption, slice_index_or, slice_set};
+ghost use Rattle.rates.specs.Rate.{Fits, remainder};
 ghost use Rattle.std.specs.List.{list_any};
 ghost use Rattle.tables.specs.Reserves.{level_at, headroom, give, lower};
-ghost use Rattle.tables.specs.Taps.{first_taps, tap_due, stepped, ends_at, Ran};
+ghost use Rattle.tables.specs.Taps.{first_taps, tap_due, with_remainder, ends_at, Ran};
 
-use crate::reserves::Reserves;
+use crate::reserves::{RESERVES, Reserve, Reserves};
 use crate::table::Table;
 use rates::Rate;
 
@@ -19,20 +19,19 @@ pub struct Tap {
     pub source: u8,
     pub sink: u8,
     pub n: u32,
-    pub d: u32,
+    pub d: u16,
     pub r: u32,
 }
 
 pub type Taps = Table<Tap, TAPS>;
 
 impl Tap {
-    // What is due at a tick, and the tap with the remainder after it, where it has a rate.
-    fn step(self) -> Option<(u32, Tap)>
-        ensures result { MatchOption result (Fits self.n self.d self.r → ⊥) (λ x. Fits self.n self.d self.r × (x.0 ≡ tap_due self) × (Some x.1 ≡ stepped (Some self))) }
+    // What is due at a tick, and the remainder after it, where there is a rate.
+    fn step(self) -> Option<(u32, u32)>
+        ensures result { MatchOption result (Fits self.n self.d self.r → ⊥) (λ x. Fits self.n self.d self.r × (x ≡ (tap_due self, remainder self.n self.d self.r))) }
     {
-        let rate = Rate::resume(self.n, self.d, self.r).ok()?;
-        let (due, r) = rate.step();
-        Some((due, Tap { r, ..self }))
+        let rate = Rate::resume(self.n, u32::from(self.d), self.r).ok()?;
+        Some(rate.step())
     }
 }
 
@@ -43,21 +42,35 @@ fn touches(row: Option<Tap>, i: u8) -> bool
     row.is_some_and(|tap| tap.source == i || tap.sink == i)
 }
 
+// What of a due can move. The sum of level and due is a `u64`, which holds it whatever the rows are.
+fn movable(due: u32, from: Reserve, to: Reserve) -> u32
+    ensures result { result ≡ min due (min from.level (to.limit - to.level)) }
+{
+    let there = due.min(from.level);
+    if u64::from(to.level) + u64::from(there) <= u64::from(to.limit) {
+        there
+    } else {
+        to.headroom()
+    }
+}
+
 // Moves what is due, as far as the source has it and the sink has room for it: what it moved.
 fn carry(reserves: &mut Reserves, source: u8, sink: u8, due: u32) -> u32
     ensures result { result ≡ min due (min (level_at reserves.old.rows source) (headroom reserves.old.rows sink)) }
     ensures after { reserves.new.rows ≡ give (lower reserves.old.rows source result) sink result }
 {
-    let Some(from) = reserves.get(source) else {
+    let (source, sink) = (usize::from(source), usize::from(sink));
+    if source >= RESERVES || sink >= RESERVES {
+        return 0;
+    }
+    let (Some(from), Some(to)) = (reserves.rows[source], reserves.rows[sink]) else {
         return 0;
     };
-    let Some(to) = reserves.get(sink) else {
-        return 0;
-    };
-    let moved = due.min(from.level).min(to.headroom());
-    if source != sink {
-        reserves.relevel(usize::from(source), from.level - moved);
-        reserves.relevel(usize::from(sink), to.level + moved);
+    let moved = movable(due, from, to);
+    reserves.relevel(source, from.level - moved);
+    // Looked up anew, since it may be the source.
+    if let Some(to) = reserves.rows[sink] {
+        reserves.relevel(sink, to.level + moved);
     }
     moved
 }
@@ -76,6 +89,17 @@ impl Table<Tap, TAPS> {
         self.rows.iter().any(|row| touches(*row, i))
     }
 
+    // Another remainder at an open tap.
+    fn keep_remainder(&mut self, k: usize, r: u32)
+        ensures after { self.new.rows ≡ slice_set self.old.rows k (with_remainder r (slice_index_or self.old.rows k None)) }
+    {
+        if k < TAPS {
+            if let Some(row) = &mut self.rows[k] {
+                row.r = r;
+            }
+        }
+    }
+
     // The turn of tap k at a tick: what it moved.
     pub fn run(&mut self, k: usize, reserves: &mut Reserves) -> u32
         ensures ran { Ran k reserves.old.rows self.old.rows result reserves.new.rows self.new.rows }
@@ -83,10 +107,10 @@ impl Table<Tap, TAPS> {
         let Some(tap) = self.at(k) else {
             return 0;
         };
-        let Some((due, after)) = tap.step() else {
+        let Some((due, r)) = tap.step() else {
             return 0;
         };
-        self.replace(k, after);
+        self.keep_remainder(k, r);
         carry(reserves, tap.source, tap.sink, due)
     }
 }

@@ -16,10 +16,10 @@ use rates::{G, Rate};
 use tables::{GRANTS, Grant, LAST_RESERVE, LAST_TAP, Reserve};
 
 // There is a rate n / d.
-fn is_rate(n: u32, d: u32) -> bool
+fn is_rate(n: u32, d: u16) -> bool
     ensures result { result ≡ (nat_le n 1000000 && between 1 d 65535) }
 {
-    Rate::new(n, d).is_ok()
+    Rate::new(n, u32::from(d)).is_ok()
 }
 
 impl<S> Node<S> {
