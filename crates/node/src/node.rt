@@ -157,7 +157,7 @@ impl<S: Store> Node<S> {
         ensures judged { (m : Meaning) → turned_down m (standing_of self.old) (settlement slip.serial slip.amount used) ≡ verdict (settling slip used result) }
         ensures same { IfErr result (λ e. (e.1 ≡ slip) × (self.new ≡ self.old)) }
     {
-        let Some(grant) = self.out(&slip) else {
+        let Some(found) = self.out(&slip) else {
             return Err((Denial::NoSuchGrant, slip));
         };
         if slip.amount < used {
@@ -167,8 +167,8 @@ impl<S: Store> Node<S> {
         let unused = amount - used;
         let taken = self.store.charge(unused);
         let lost = unused.saturating_sub(taken);
-        self.reserves.fill_up(grant.reserve, taken);
-        self.grants.remove(serial);
+        self.reserves.fill_up(found.grant.reserve, taken);
+        self.grants.remove(found.place, serial);
         self.books.settle(amount, used, lost);
         Ok(lost)
     }
@@ -180,11 +180,11 @@ impl<S: Store> Node<S> {
         ensures same { IfErr result (λ e. (e.1 ≡ slip) × (self.new ≡ self.old)) }
         ensures after { IfOk result (λ serial. (serial ≡ slip.serial) × Marked true serial self.old self.new) }
     {
-        let Some(_) = self.out(&slip) else {
+        let Some(found) = self.out(&slip) else {
             return Err((Denial::NoSuchGrant, slip));
         };
         let Slip { serial, amount: _ } = slip;
-        self.grants.mark(serial, true);
+        self.grants.mark(found.place, serial, true);
         Ok(serial)
     }
 
@@ -196,11 +196,11 @@ impl<S: Store> Node<S> {
         ensures slip { IfOk result (λ slip. (slip.serial ≡ serial) × IsOut slip self.new) }
         ensures after { OnOk result (Marked false serial self.old self.new) }
     {
-        let grant = self.may_recall(task, serial)?;
-        self.grants.mark(serial, false);
+        let found = self.may_recall(task, serial)?;
+        self.grants.mark(found.place, serial, false);
         Ok(Slip {
             serial,
-            amount: grant.amount,
+            amount: found.grant.amount,
         })
     }
 

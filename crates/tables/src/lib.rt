@@ -10,7 +10,7 @@ mod taps;
 
 pub use books::Books;
 pub use grant::Grant;
-pub use grants::{GRANTS, Grants};
+pub use grants::{Found, GRANTS, Grants};
 pub use reserves::{LAST_RESERVE, ROOT, ROOT_TASK, Reserve, Reserves};
 pub use table::Table;
 pub use taps::{LAST_TAP, TAPS, Tap, Taps};

@@ -13,7 +13,7 @@ use crate::new_reserve::NewReserve;
 use crate::new_tap::NewTap;
 use crate::slip::Slip;
 use rates::{G, Rate};
-use tables::{GRANTS, Grant, LAST_RESERVE, LAST_TAP, Reserve};
+use tables::{Found, GRANTS, LAST_RESERVE, LAST_TAP, Reserve};
 
 // There is a rate n / d.
 fn is_rate(n: u32, d: u16) -> bool
@@ -158,24 +158,23 @@ impl<S> Node<S> {
         Ok(())
     }
 
-    pub(super) fn may_recall(&self, task: u8, serial: u32) -> Result<Grant, Denial>
+    pub(super) fn may_recall(&self, task: u8, serial: u32) -> Result<Found, Denial>
         ensures judged { (m : Meaning) → refusal_of result ≡ turned_down m (standing_of self.now) (recall task serial) }
-        ensures found { IfOk result (λ g. grant_of serial (open_in self.now.grants) ≡ Some g) }
+        ensures found { IfOk result (λ f. grant_of serial (open_in self.now.grants) ≡ Some f.grant) }
     {
-        let parked = self.grants.find(serial).filter(|grant| grant.parked);
-        let grant = parked.ok_or(Denial::NoSuchGrant)?;
-        if !self.owns(task, grant.reserve) {
+        let parked = self.grants.find(serial).filter(|found| found.grant.parked);
+        let found = parked.ok_or(Denial::NoSuchGrant)?;
+        if !self.owns(task, found.grant.reserve) {
             return Err(Denial::NotOwner);
         }
-        Ok(grant)
+        Ok(found)
     }
 
     // The grant of a slip, where it is out and has the slip's amount.
-    pub(super) fn out(&self, slip: &Slip) -> Option<Grant>
-        ensures result { MatchOption result (fits_out slip.now.serial slip.now.amount (open_in self.now.grants) ≡ false) (λ g. (fits_out slip.now.serial slip.now.amount (open_in self.now.grants) ≡ true) × (grant_of slip.now.serial (open_in self.now.grants) ≡ Some g)) }
+    pub(super) fn out(&self, slip: &Slip) -> Option<Found>
+        ensures result { MatchOption result (fits_out slip.now.serial slip.now.amount (open_in self.now.grants) ≡ false) (λ f. (fits_out slip.now.serial slip.now.amount (open_in self.now.grants) ≡ true) × (grant_of slip.now.serial (open_in self.now.grants) ≡ Some f.grant)) }
     {
-        self.grants
-            .find(slip.serial)
-            .filter(|grant| grant.amount == slip.amount && !grant.parked)
+        self.grants.find(slip.serial).filter(|found| found.grant.amount == slip.amount
+            && !found.grant.parked)
     }
 }

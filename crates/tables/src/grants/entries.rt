@@ -1,9 +1,9 @@
 // How grants are added, found, marked and removed.
 ghost use Rattle.std.specs.Prelude.{◌≡◌, ◌+◌, ◌-◌, ◌^◌, ◌≤◌, min, false, [], length, MatchOption};
 ghost use Rattle.std.specs.List.{list_any};
-ghost use Rattle.tables.specs.Grants.{open_in, Nowhere, StandsAt, grant_of, of_reserve, added, without, marked};
+ghost use Rattle.tables.specs.Grants.{open_in, Nowhere, StandsAt, Finds, of_reserve, added, without, marked};
 
-use super::{GRANTS, Grants};
+use super::{Found, GRANTS, Grants};
 use crate::grant::Grant;
 use arrayvec::ArrayVec;
 
@@ -32,15 +32,14 @@ impl Grants {
         self.serials
     }
 
-    // Where the grant with this serial stands. The newest is looked at first, since it is parked when it is given; then the
-    // oldest.
-    fn place(&self, serial: u32) -> Option<usize>
+    // Where the grant with this serial stands: one place is looked at first, and then all from the oldest on.
+    fn place(&self, first: usize, serial: u32) -> Option<usize>
         ensures result { MatchOption result (Nowhere serial (open_in self.now)) (StandsAt serial (open_in self.now)) }
     {
         let rows = self.rows.as_slice();
         let len = rows.len();
-        if len > 0 && rows[len - 1].serial == serial {
-            return Some(len - 1);
+        if first < len && rows[first].serial == serial {
+            return Some(first);
         }
         for i in 0..len {
             if rows[i].serial == serial {
@@ -50,11 +49,15 @@ impl Grants {
         None
     }
 
-    pub fn find(&self, serial: u32) -> Option<Grant>
-        ensures result { result ≡ grant_of serial (open_in self.now) }
+    // The grant with this serial. The newest is looked at first, since it is parked as soon as it is given.
+    pub fn find(&self, serial: u32) -> Option<Found>
+        ensures result { Finds serial (open_in self.now) result }
     {
-        let place = self.place(serial)?;
-        Some(self.rows.as_slice()[place])
+        let place = self.place(self.rows.len().saturating_sub(1), serial)?;
+        Some(Found {
+            place,
+            grant: self.rows.as_slice()[place],
+        })
     }
 
     // Some open grant is of this reserve.
@@ -83,12 +86,12 @@ impl Grants {
         serial
     }
 
-    // The grants but for the one with this serial.
-    pub fn remove(&mut self, serial: u32)
+    // The grants but for the one with this serial, which was found at this place.
+    pub fn remove(&mut self, place: usize, serial: u32)
         ensures after { open_in self.new ≡ without serial (open_in self.old) }
         ensures serials { self.new.serials ≡ self.old.serials }
     {
-        let Some(place) = self.place(serial) else {
+        let Some(place) = self.place(place, serial) else {
             return;
         };
         let rows = self.rows.as_mut_slice();
@@ -96,12 +99,12 @@ impl Grants {
         let _ = self.rows.pop();
     }
 
-    // The grant with this serial is parked, or is out.
-    pub fn mark(&mut self, serial: u32, parked: bool)
+    // The grant with this serial, which was found at this place, is parked, or is out.
+    pub fn mark(&mut self, place: usize, serial: u32, parked: bool)
         ensures after { open_in self.new ≡ marked parked serial (open_in self.old) }
         ensures serials { self.new.serials ≡ self.old.serials }
     {
-        if let Some(place) = self.place(serial) {
+        if let Some(place) = self.place(place, serial) {
             let rows = self.rows.as_mut_slice();
             rows[place].parked = parked;
         }
