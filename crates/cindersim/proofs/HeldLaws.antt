@@ -1,5 +1,5 @@
 -- An answer that is written behind the answers that are held. Assumes nothing.
-use Rattle.std.proofs.Common.{◌≡◌, ℕ, ◌+◌, ◌<◌, ◌≤◌, cond, ltb, List, ◌++◌, length, take, drop, Ok, Err, Result, sym, ap, ◌∙◌, subst, append_assoc, append-nil, Option, None, Some, [], min, arith, length-append, length-drop}
+use Rattle.std.proofs.Common.{◌≡◌, ℕ, ◌+◌, ◌≤◌, cond, ltb, List, ◌++◌, length, take, drop, Ok, Err, Result, sym, ap, ◌∙◌, append_assoc, min, arith, length-append, length-drop}
 use Rattle.std.proofs.lemmas.List.{length-take, length-take-le, take-append-le, take_all}
 use Rattle.std.proofs.lemmas.Bool.Decides.{nat_tests}
 use borrow.Rule.Slice.PartMut.{put_mid, mid_of, post_of}
@@ -7,10 +7,9 @@ use Rattle.frame.specs.declared.answer.Answer.{Answer}
 use Rattle.frame.specs.declared.fault.FrameFault.{FrameFault}
 use Rattle.frame.specs.declared.fault.FrameFault.TheVariants.{ShortAnswer}
 use Rattle.frame.specs.Digits.{written, over_front}
-use Rattle.frame.specs.Answer.{reply_bytes, answered, after_answer}
+use Rattle.frame.specs.Answer.{reply_bytes}
 use Rattle.simulator.specs.declared.simulator.Simulator.{Simulator}
 use Rattle.simulator.specs.Simulator.{Replies, Answers}
-use Rattle.cindersim.specs.Held.{Grows}
 
 -- where there is room for an answer, it is written
 by_room : {X : Type 0} (n : ℕ) (x y : X) → 160 ≤ n → cond (ltb n 160) x y ≡ y
@@ -36,37 +35,18 @@ abbrev told : Result ℕ FrameFault → ℕ
 told (Ok n) = n
 told (Err f) = 0
 
-pub is_told :
-    (s : Simulator) (line out : List ℕ) (r : Result ℕ FrameFault) (s' : Simulator) (out' : List ℕ)
-    → Answers s line out r s' out' → 160 ≤ length out → (n : ℕ) × (r ≡ Ok n)
-is_told s line out r s' out' ans room =
-    let x = ans.long room in
-    let n : ℕ = length (written (reply_bytes x.0)) in
-    (n, x.2 ∙ by_room (length out) (Err ShortAnswer) (Ok n) room)
-
 within : (a k : ℕ) (xs : List ℕ) → 160 ≤ length (mid_of a k xs) → a ≤ length xs
 within a k xs h = let e = length-take k (drop a xs) ∙ ap (min k) (length-drop a xs) in omega arith
 
--- nothing was written, and nothing is held beyond what was
-pub grows_none : (o : Option (List ℕ)) (xs : List ℕ) → Grows o xs o xs []
-grows_none None xs = ([], tt, sym (append-nil xs))
-grows_none (Some ws) xs = ([], sym (append-nil ws), sym (append-nil xs))
-
-grows_more : (o : Option (List ℕ)) (xs : List ℕ) (o' : Option (List ℕ)) (ys bs zs : List ℕ) → Grows o xs o' ys [] → zs ≡ ys ++ bs → Grows o xs o' zs bs
-grows_more o xs o' ys bs zs (ws, app, is) e =
-    (ws, app, ap (λ t. ws ++ t) e ∙ sym (append_assoc ws ys bs) ∙ ap (λ t. t ++ bs) (is ∙ append-nil xs))
-
 -- the array that was passed is what lies behind the first a bytes
 pub added :
-    (s : Simulator) (line : List ℕ) (r : Result ℕ FrameFault) (s' : Simulator) (out' : List ℕ) (a k : ℕ) (xs held : List ℕ)
+    (s : Simulator) (line : List ℕ) (r : Result ℕ FrameFault) (s' : Simulator) (out' : List ℕ) (a k : ℕ) (xs : List ℕ)
     → Answers s line (mid_of a k xs) r s' out' → 160 ≤ length (mid_of a k xs) → (n : ℕ) → r ≡ Ok n
-    → (was : Simulator) → s ≡ was → (o o' : Option (List ℕ)) → Grows o held o' (take a xs) []
-    → (x : Result Answer FrameFault) × Replies was line x s' × Grows o held o' (take (a + n) (put_mid a k xs out')) (written (reply_bytes x))
-added s line r s' out' a k xs held ans room n is was same o o' grows =
+    → (x : Result Answer FrameFault) × Replies s line x s' × (take (a + n) (put_mid a k xs out') ≡ take a xs ++ written (reply_bytes x))
+added s line r s' out' a k xs ans room n is =
     let out : List ℕ = mid_of a k xs in
     let x = ans.long room in
     let ws : List ℕ = written (reply_bytes x.0) in
     let len : n ≡ length ws = ap told (sym is ∙ x.2 ∙ by_room (length out) (Err ShortAnswer) (Ok (length ws)) room) in
     let front : out' ≡ ws ++ drop (length ws) out = x.3 ∙ by_room (length out) out (over_front ws out) room in
-    let now = behind a k n xs out' ws (drop (length ws) out) (within a k xs room) front len in
-    (x.0, subst (λ z. Replies z line x.0 s') same x.1, grows_more o held o' (take a xs) ws _ grows now)
+    (x.0, x.1, behind a k n xs out' ws (drop (length ws) out) (within a k xs room) front len)

@@ -1,7 +1,7 @@
 // Reads frames from standard input, one to a line, and writes one answer line for each.
 #![tactic(auto)]
 
-ghost use Rattle.std.specs.Prelude.{◌≡◌, ◌≤◌, ◌+◌, [], Result, OnOk, take};
+ghost use Rattle.std.specs.Prelude.{◌≡◌, ◌≤◌, ◌+◌, ◌++◌, [], Result, OnOk, take};
 ghost use Rattle.std.specs.Io.KnownBytes.{Appends};
 ghost use Rattle.frame.specs.declared.answer.Answer.{Answer};
 ghost use Rattle.frame.specs.Answer.{reply_bytes};
@@ -102,6 +102,20 @@ impl<W: Write + Drop> Session<W> {
         }
         Ok(())
     }
+
+    // Answers a line, where there is room. It stays a call, so that `line` is small enough to be none: its result is large,
+    // and would be cleared and copied at each line.
+    #[inline(never)]
+    fn answer(&mut self, line: &[u8])
+        requires { self.old.len + 160 ≤ 65536 }
+        ensures replies { (r : Result Answer FrameFault) × Replies self.old.simulator line.now r self.new.simulator × (take self.new.len self.new.buffer ≡ take self.old.len self.old.buffer ++ written (reply_bytes r)) }
+        ensures same { self.new.output ≡ self.old.output }
+    {
+        // The rest of the buffer is as long as an answer may ask, so there is one.
+        if let Ok(len) = self.simulator.answer(line, &mut self.buffer[self.len..]) {
+            self.len += len;
+        }
+    }
 }
 
 impl<W: Write + Drop> Script for Session<W> {
@@ -110,10 +124,7 @@ impl<W: Write + Drop> Script for Session<W> {
 
     fn line(&mut self, line: &[u8]) -> io::Result<()> {
         self.make_room()?;
-        // The rest of the buffer is as long as an answer may ask, so there is one.
-        if let Ok(len) = self.simulator.answer(line, &mut self.buffer[self.len..]) {
-            self.len += len;
-        }
+        self.answer(line);
         Ok(())
     }
 

@@ -45,7 +45,9 @@ impl<'a, S: Script> Cutter<'a, S> {
         }
     }
 
-    // Hands over the line that ends with these bytes, and begins the next.
+    // Hands over the line that ends with these bytes, and begins the next. Made part of the loop that calls it, since its
+    // result is large and would be copied at each line.
+    #[inline(always)]
     fn finish(&mut self, end: &[u8]) -> io::Result<()>
         ensures same { self.new.script.ghost_name ≡ self.old.script.ghost_name }
         ensures heard { OnOk result (S.Script.hears self.old.script.now (cut (kept self.old.line ++ end.now)) self.new.script.now) }

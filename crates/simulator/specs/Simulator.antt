@@ -5,6 +5,7 @@
 --     done x, told x             the answer to a call that tells nothing, and to a tick
 --     Grants G n t i q r m       a grant and, where it is accepted, the parking of its slip
 --     Settles G n t s u r m      a recall, where it is accepted a settlement, and where that is refused a parking
+--     Ticks G n h r m            a tick with the harvest h, whose report is dropped
 --     ServesOn G n f r m         what the frame f is answered by the node n, and that m is where its calls lead
 --     Builds G put x r           r is a new node over the store x, where x could be built, or its refusal
 --     Built f r                  what the frame f builds, where no node stands
@@ -119,6 +120,9 @@ module _ {S : Type 0} (G : Ghosts S) where
   abbrev pub Settles : Node S → ℕ → ℕ → ℕ → Result Answer FrameFault → Node S → Type 0
   Settles n task serial used r m = (x : Result Slip Denial) × (k : Node S) × Extends G n (recalling task serial x) k × SettledWith serial x used k r m
 
+  abbrev pub Ticks : Node S → ℕ → Result Answer FrameFault → Node S → Type 0
+  Ticks n harvest r m = (report : List ℕ) × (length report ≡ 96) × (x : Result (ℕ × ℕ) Denial) × Extends G n (ticking harvest report x) m × (r ≡ told x)
+
   abbrev pub Turned : Node S → Result Answer FrameFault → Node S → Type 0
   Turned n r m = (r ≡ Err OutOfTurn) × (m ≡ n)
 
@@ -133,7 +137,7 @@ module _ {S : Type 0} (G : Ghosts S) where
   ServesOn n (Shut t k) r m = (x : Result (Unit {0}) Denial) × Extends G n (shutting t k x) m × (m.store ≡ n.store) × (r ≡ done x)
   ServesOn n (Grant t i q) r m = Grants n t i q r m
   ServesOn n (Settle t s u) r m = Settles n t s u r m
-  ServesOn n (Tick h) r m = (report : List ℕ) × (length report ≡ 96) × (x : Result (ℕ × ℕ) Denial) × Extends G n (ticking h report x) m × (r ≡ told x)
+  ServesOn n (Tick h) r m = Ticks n h r m
   ServesOn n Audit r m = (t : Totals) × Extends G n (audited t) n × Lawful G n t × (r ≡ Ok (Audited t)) × (m ≡ n)
 
 abbrev pub ServesIn : {S : Type 0} → Ghosts S → (Node S → Simulator) → Node S → Frame → Result Answer FrameFault → Simulator → Type 0

@@ -1,7 +1,7 @@
 // What a node answers to a frame: the calls that the frame stands for, in order.
 ghost use Rattle.std.specs.Prelude.{◌≡◌, OnErr};
 ghost use Rattle.node.specs.Node.{SoundNode};
-ghost use Rattle.simulator.specs.Simulator.{Grants, Settles, ServesOn};
+ghost use Rattle.simulator.specs.Simulator.{Grants, Settles, Ticks, ServesOn};
 
 use frame::{Answer, Frame, FrameFault};
 use node::{Node, TAPS};
@@ -44,6 +44,16 @@ fn settle<S: Store>(
     }
 }
 
+// A tick, whose answer tells nothing of the report. The report is a variable of this function, so no other frame clears one.
+fn tick<S: Store>(node: &mut Node<S>, harvest: u32) -> Result<Answer, FrameFault>
+    ensures calls { Ticks (S.Store) node.old harvest result node.new }
+    ensures same { OnErr result (node.new ≡ node.old) }
+{
+    let mut report = [0; TAPS];
+    let (loss, intake) = node.tick(harvest, &mut report)?;
+    Ok(Answer::Ticked { loss, intake })
+}
+
 pub(crate) fn serve<S: Store>(node: &mut Node<S>, frame: &Frame) -> Result<Answer, FrameFault>
     ensures serves { ServesOn (S.Store) node.old frame.now result node.new }
     ensures same { SoundNode (S.Store) node.old → OnErr result (node.new ≡ node.old) }
@@ -71,11 +81,7 @@ pub(crate) fn serve<S: Store>(node: &mut Node<S>, frame: &Frame) -> Result<Answe
             amount,
         } => grant(node, *task, *reserve, *amount),
         Frame::Settle { task, serial, used } => settle(node, *task, *serial, *used),
-        Frame::Tick { harvest } => {
-            let mut report = [0; TAPS];
-            let (loss, intake) = node.tick(*harvest, &mut report)?;
-            Ok(Answer::Ticked { loss, intake })
-        }
+        Frame::Tick { harvest } => tick(node, *harvest),
         Frame::Audit => Ok(Answer::Audited(node.audit())),
         Frame::Capacitor { .. } | Frame::Layered { .. } | Frame::Bank { .. } => Err(
             FrameFault::OutOfTurn,

@@ -1,4 +1,4 @@
-use Rattle.std.proofs.Common.{sym, ◌∙◌}
+use Rattle.std.proofs.Common.{sym}
 use Rattle.store.specs.Capacitor.{new_capacitor, capacitor_store}
 use Rattle.store.specs.Bank.{new_bank, bank_store}
 use Rattle.simulator.specs.declared.simulator.Simulator.TheVariants.{Single, Layered, Cells}
