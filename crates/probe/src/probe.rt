@@ -26,7 +26,7 @@ const RADIO_LIMIT: u32 = 1_000;
 const RADIO_TAP: u8 = 0;
 
 // The radio is fed 1 quantum in so many ticks.
-const TICKS_A_QUANTUM: u32 = 3;
+const TICKS_A_QUANTUM: u16 = 3;
 
 const SEND: u32 = 31;
 
