@@ -77,6 +77,10 @@ impl Session {
 
 impl Script for Session {
     ghost hears = { Logged };
+    // The end tells the counts and the totals, and counts nothing.
+    ghost ends = { λ s s'. (s'.recount ≡ s.recount) × (s'.ticks ≡ s.ticks) };
+
+    ghost flushes = { λ s s'. (s'.simulator ≡ s.simulator) × (s'.recount ≡ s.recount) × (s'.ticks ≡ s.ticks) };
 
     fn line(&mut self, line: &[u8]) -> io::Result<()> {
         let reply = self.reply(line);

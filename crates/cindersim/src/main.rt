@@ -121,6 +121,10 @@ impl<W: Write + Drop> Session<W> {
 impl<W: Write + Drop> Script for Session<W> {
     // The simulator replies to the line, and its answer stands last.
     ghost hears = { λ s line s'. (r : Result Answer FrameFault) × Replies s.simulator line r s'.simulator × Grows (W.contents s.output) (take s.len s.buffer) (W.contents s'.output) (take s'.len s'.buffer) (written (reply_bytes r)) };
+    // No answer is left for the end, and a flush writes those that are held.
+    ghost ends = { λ s s'. s' ≡ s };
+
+    ghost flushes = { λ s s'. (s'.len ≡ 0) × Appends (W.contents s.output) (W.contents s'.output) (take s.len s.buffer) × (s'.simulator ≡ s.simulator) };
 
     fn line(&mut self, line: &[u8]) -> io::Result<()> {
         self.make_room()?;
@@ -128,11 +132,11 @@ impl<W: Write + Drop> Script for Session<W> {
         Ok(())
     }
 
-    fn flush(&mut self) -> io::Result<()>
-        ensures after { OnOk result (self.new.len ≡ 0) }
-        ensures written { OnOk result (Appends (W.contents self.old.output) (W.contents self.new.output) (take self.old.len self.old.buffer)) }
-        ensures same { self.new.simulator ≡ self.old.simulator }
-    {
+    fn end(&mut self) -> io::Result<()> {
+        Ok(())
+    }
+
+    fn flush(&mut self) -> io::Result<()> {
         self.write()
     }
 }

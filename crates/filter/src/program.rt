@@ -1,11 +1,12 @@
 // A program that reads its script from standard input, and writes to standard output.
-ghost use Rattle.std.specs.Prelude.{◌≤◌};
+ghost use Rattle.std.specs.Prelude.{◌≡◌, ◌≤◌, ◌<◌, ◌^◌, ℕ, List, length, Some, OnOk};
 ghost use Rattle.std.specs.Process.{exit_status};
 ghost use Rattle.filter.specs.Status.{Ends};
+ghost use Rattle.filter.specs.Taking.{Taken};
 
 use crate::cutting::Cutter;
 use crate::script::Script;
-use std::io::{ErrorKind, Read, Stdin};
+use std::io::{ErrorKind, Read};
 use std::process::ExitCode;
 use std::{env, io};
 use thiserror::Error;
@@ -22,7 +23,9 @@ enum Stop {
 }
 
 // Hands over every line; a last one that is not empty may lack its line feed. What is answered is written before more is read.
-fn take_all<S: Script>(script: &mut S, mut input: Stdin) -> Result<(), Stop> {
+fn take_all<S: Script, R: Read + Drop>(script: &mut S, mut input: R) -> Result<(), Stop>
+    ensures taken { (bs : List ℕ) → R.remaining input ≡ Some bs → length bs < 2 ^ 64 → OnOk result (Taken (S.Script) script.old bs script.new) }
+{
     let mut cutter = Cutter::new(script);
     let mut chunk = [0; CHUNK];
     // It counts, since every loop is proved to end, and nothing says that an input does.
