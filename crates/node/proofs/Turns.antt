@@ -1,7 +1,6 @@
 -- The turns of the taps in one tick, one after the other.
 use Rattle.std.proofs.Common.{◌≡◌, ℕ, zero, suc, ◌+◌, ◌-◌, ◌<◌, ◌≤◌, false, List, [], ◌∷◌, ◌++◌, length, get_or, map, take, drop, set, replicate, is_some, Some, None, sym, refl, ap, ◌∙◌, subst, arith}
-use Rattle.std.proofs.lemmas.List.{append_assoc, length-replicate, take_more, take_more_set, take-append-drop, length-append, length-take, length-drop, get_or-drop, map-append}
-use Rattle.std.proofs.Math.Seq.{take-append_seam, drop-append_seam}
+use Rattle.std.proofs.lemmas.List.{take_more, take_more_set, take-append-drop, length-drop, get_or-drop, map-append}
 use Rattle.std.proofs.lemmas.Bool.{true≢false}
 use Rattle.tables.specs.Rows.{present}
 use Rattle.tables.specs.Reserves.{ReserveRows}
@@ -75,28 +74,19 @@ all_turned start ts report end rs now size within past tapped stands figures =
           ∙ sym (map-append stepped (take end ts) rest) ∙ ap (map stepped) whole;
     }
 
--- the report of a tick: the figures of the taps below the end, and 0 up to the 96th place
-module _ (report zeros further : List ℕ) (end : ℕ) (within : end ≤ 96) (room : 96 ≤ length report) (blank : zeros ≡ replicate (length (take (96 - end) (drop end report))) 0) where
-  filled : zeros ≡ replicate (96 - end) 0
-  filled = blank ∙ ap (λ n. replicate n 0) (omega (arith, length-take (96 - end) (drop end report), length-drop end report))
-
-  size : length (take end report ++ zeros) ≡ 96
-  size =
-      let all : length zeros ≡ 96 - end = ap length filled ∙ length-replicate {A = ℕ} (96 - end) 0 in
-      omega (arith, all, length-append (take end report) zeros, length-take end report)
-
-  pub figures_reported : take 96 (take end report ++ (zeros ++ further)) ≡ take end report ++ replicate (96 - end) 0
-  figures_reported =
-      ap (take 96) (sym (append_assoc (take end report) zeros further))
-      ∙ ap (λ n. take n ((take end report ++ zeros) ++ further)) (sym size)
-      ∙ take-append_seam (take end report ++ zeros) further
-      ∙ ap (λ xs. take end report ++ xs) filled
-
-  pub further_reported : drop 96 (take end report ++ (zeros ++ further)) ≡ further
-  further_reported =
-      ap (drop 96) (sym (append_assoc (take end report) zeros further))
-      ∙ ap (λ n. drop n ((take end report ++ zeros) ++ further)) (sym size)
-      ∙ drop-append_seam (take end report ++ zeros) further
+-- a report in which 0 stands from the end on
+pub figures_reported : (n end : ℕ) (report : List ℕ) → end ≤ n → n ≤ length report → ((j : ℕ) → end ≤ j → j < n → get_or report j 0 ≡ 0) → take n report ≡ take end report ++ replicate (n - end) 0
+figures_reported zero zero report within room zeros = refl
+figures_reported zero (suc end) report within room zeros = absurd (omega (arith, within))
+figures_reported (suc n) end [] within room zeros = absurd (omega (arith, room))
+figures_reported (suc n) zero (q ∷ report) within room zeros =
+    let rest : take n report ≡ replicate (n - 0) 0 = figures_reported n 0 report (omega arith) (omega (arith, room)) (λ j le lt. zeros (suc j) (omega arith) (omega (arith, lt))) in
+    let count : suc (n - 0) ≡ suc n - 0 = omega arith in
+    ap (λ (x : ℕ). x ∷ take n report) (zeros 0 (omega arith) (omega arith)) ∙ ap (λ xs. 0 ∷ xs) rest ∙ ap (λ k. replicate k 0) count
+figures_reported (suc n) (suc end) (q ∷ report) within room zeros =
+    let rest : take n report ≡ take end report ++ replicate (n - end) 0 = figures_reported n end report (omega (arith, within)) (omega (arith, room)) (λ j le lt. zeros (suc j) (omega (arith, le)) (omega (arith, lt))) in
+    let count : n - end ≡ suc n - suc end = omega arith in
+    ap (λ xs. q ∷ xs) (rest ∙ ap (λ k. take end report ++ replicate k 0) count)
 
 -- the figure of tap k is what it moves at its turn
 pub figure_at : (rs : ReserveRows) (ts : TapRows) (qs : List ℕ) (k : ℕ) → Figures rs ts qs → get_or qs k 0 ≡ figure_of (after_moves rs (take k ts) (take k qs)) (get_or ts k None)

@@ -50,11 +50,12 @@ fn run_taps(taps: &mut Taps, reserves: &mut Reserves, report: &mut [u32])
     ensures turns { AllFit taps.old.rows → Turns reserves.old.rows taps.old.rows (take 96 report.new) reserves.new.rows taps.new.rows }
     ensures further { drop 96 report.new ≡ drop 96 report.old }
 {
-    let end = taps.end();
-    for k in 0..end {
-        report[k] = taps.run(k, reserves);
+    report[..TAPS].fill(0);
+    for k in 0..taps.end() {
+        if let Some(moved) = taps.run(k, reserves) {
+            report[k] = moved;
+        }
     }
-    report[end..TAPS].fill(0);
 }
 
 // That a refused call changes nothing, and that four calls leave the store as it is, each contract says: it is said of

@@ -2,6 +2,7 @@
 ghost use Rattle.std.specs.Prelude.{◌≡◌, ◌-◌, min, None, MatchOption, slice_index_or, slice_set};
 ghost use Rattle.rates.specs.Rate.{Fits, remainder};
 ghost use Rattle.std.specs.List.{list_any};
+ghost use Rattle.std.specs.Option.{unwrap_or};
 ghost use Rattle.tables.specs.Reserves.{level_at, headroom, give, lower};
 ghost use Rattle.tables.specs.Taps.{first_taps, tap_due, with_remainder, ends_at, Ran};
 
@@ -54,17 +55,17 @@ fn movable(due: u32, from: Reserve, to: Reserve) -> u32
     }
 }
 
-// Moves what is due, as far as the source has it and the sink has room for it: what it moved.
-fn carry(reserves: &mut Reserves, source: u8, sink: u8, due: u32) -> u32
-    ensures result { result ≡ min due (min (level_at reserves.old.rows source) (headroom reserves.old.rows sink)) }
-    ensures after { reserves.new.rows ≡ give (lower reserves.old.rows source result) sink result }
+// Moves what is due, as far as the source has it and the sink has room for it: what it moved, where both are open.
+fn carry(reserves: &mut Reserves, source: u8, sink: u8, due: u32) -> Option<u32>
+    ensures result { unwrap_or result 0 ≡ min due (min (level_at reserves.old.rows source) (headroom reserves.old.rows sink)) }
+    ensures after { reserves.new.rows ≡ give (lower reserves.old.rows source (unwrap_or result 0)) sink (unwrap_or result 0) }
 {
     let (source, sink) = (usize::from(source), usize::from(sink));
     if source >= RESERVES || sink >= RESERVES {
-        return 0;
+        return None;
     }
     let (Some(from), Some(to)) = (reserves.rows[source], reserves.rows[sink]) else {
-        return 0;
+        return None;
     };
     let moved = movable(due, from, to);
     reserves.relevel(source, from.level - moved);
@@ -72,7 +73,7 @@ fn carry(reserves: &mut Reserves, source: u8, sink: u8, due: u32) -> u32
     if let Some(to) = reserves.rows[sink] {
         reserves.relevel(sink, to.level + moved);
     }
-    moved
+    Some(moved)
 }
 
 impl Table<Tap, TAPS> {
@@ -100,16 +101,12 @@ impl Table<Tap, TAPS> {
         }
     }
 
-    // The turn of tap k at a tick: what it moved.
-    pub fn run(&mut self, k: usize, reserves: &mut Reserves) -> u32
-        ensures ran { Ran k reserves.old.rows self.old.rows result reserves.new.rows self.new.rows }
+    // The turn of tap k at a tick: what it moved, where it and its ends are open.
+    pub fn run(&mut self, k: usize, reserves: &mut Reserves) -> Option<u32>
+        ensures ran { Ran k reserves.old.rows self.old.rows (unwrap_or result 0) reserves.new.rows self.new.rows }
     {
-        let Some(tap) = self.at(k) else {
-            return 0;
-        };
-        let Some((due, r)) = tap.step() else {
-            return 0;
-        };
+        let tap = self.at(k)?;
+        let (due, r) = tap.step()?;
         self.keep_remainder(k, r);
         carry(reserves, tap.source, tap.sink, due)
     }
