@@ -103,8 +103,8 @@ impl<W: Write + Drop> Session<W> {
         Ok(())
     }
 
-    // Answers a line, where there is room. It stays a call, so that `line` is small enough to be none: its result is large,
-    // and would be cleared and copied at each line.
+    // Answers a line, where there is room. It is never inlined, so that `line` is small and is: the result of `line` is large,
+    // and would be cleared and copied each time.
     #[inline(never)]
     fn answer(&mut self, line: &[u8])
         requires { self.old.len + 160 ≤ 65536 }

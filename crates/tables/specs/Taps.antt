@@ -5,6 +5,8 @@
 --     with_remainder r o      the row o with the remainder r, if it is open
 --     stepped o               the row o after a tick: its remainder has advanced
 --     ends_at i o             the tap o begins or ends at reserve i
+--     has_rate t              the tap t has a rate
+--     runs rs o               the tap o runs where the reserves stand as rs: it has a rate, and it and its ends are open
 --     figure_of rs o          what the tap o moves at its turn, where the reserves stand as rs
 --     moved rs o q            the reserves after the tap o moved q
 --     after_moves rs ts qs    the reserves after the taps ts, in their order, moved the figures qs
@@ -13,9 +15,10 @@
 --     Ran k rs ts q rs' ts'   what tap k's turn moved, and what it left
 --     AllFit ts               there are 96 rows, and every open tap has a rate
 --     Turns rs ts qs rs' ts'  what the turns of all taps moved, and what they left
-use Rattle.std.specs.Prelude.{◌≡◌, ℕ, min, Bool, false, ◌||◌, List, [], ◌∷◌, length, map, replicate, Some, None, Option, ◌==◌, slice_index_or, slice_set}
+use Rattle.std.specs.Prelude.{◌≡◌, ℕ, min, Bool, false, ◌&&◌, ◌||◌, List, [], ◌∷◌, length, map, replicate, Some, None, Option, ◌==◌, nat_le, nat_lt, slice_index_or, slice_set}
 use Rattle.rates.specs.Rate.{Fits, due, remainder}
 use Rattle.tables.specs.declared.taps.Tap.{Tap}
+use Rattle.tables.specs.Rows.{present}
 use Rattle.tables.specs.Reserves.{ReserveRows, level_at, headroom, give, lower}
 
 abbrev pub TapRows : Type 0
@@ -38,6 +41,13 @@ stepped (Some t) = with_remainder (remainder t.n t.d t.r) (Some t)
 abbrev pub ends_at : ℕ → Option Tap → Bool
 ends_at i None = false
 ends_at i (Some t) = t.source == i || t.sink == i
+
+abbrev pub has_rate : Tap → Bool
+has_rate t = nat_le t.n 1000000 && (nat_le t.d 65535 && nat_lt t.r t.d)
+
+abbrev pub runs : ReserveRows → Option Tap → Bool
+runs rs None = false
+runs rs (Some t) = has_rate t && (present rs t.source && present rs t.sink)
 
 -- the least of its due, the source's level and the sink's headroom
 abbrev pub moves_at : ReserveRows → Tap → ℕ

@@ -1,10 +1,11 @@
 // The constant taps of a node, by number.
-ghost use Rattle.std.specs.Prelude.{◌≡◌, ◌-◌, min, None, MatchOption, slice_index_or, slice_set};
+ghost use Rattle.std.specs.Prelude.{◌≡◌, ◌-◌, ◌&&◌, min, None, MatchOption, slice_index_or, slice_set};
 ghost use Rattle.rates.specs.Rate.{Fits, remainder};
 ghost use Rattle.std.specs.List.{list_any};
-ghost use Rattle.std.specs.Option.{unwrap_or};
+ghost use Rattle.std.specs.Option.{is_some, unwrap_or};
+ghost use Rattle.tables.specs.Rows.{present};
 ghost use Rattle.tables.specs.Reserves.{level_at, headroom, give, lower};
-ghost use Rattle.tables.specs.Taps.{first_taps, tap_due, with_remainder, ends_at, Ran};
+ghost use Rattle.tables.specs.Taps.{first_taps, tap_due, with_remainder, ends_at, runs, Ran};
 
 use crate::reserves::{RESERVES, Reserve, Reserves};
 use crate::table::Table;
@@ -57,6 +58,7 @@ fn movable(due: u32, from: Reserve, to: Reserve) -> u32
 
 // Moves what is due, as far as the source has it and the sink has room for it: what it moved, where both are open.
 fn carry(reserves: &mut Reserves, source: u8, sink: u8, due: u32) -> Option<u32>
+    ensures runs { is_some result ≡ (present reserves.old.rows source && present reserves.old.rows sink) }
     ensures result { unwrap_or result 0 ≡ min due (min (level_at reserves.old.rows source) (headroom reserves.old.rows sink)) }
     ensures after { reserves.new.rows ≡ give (lower reserves.old.rows source (unwrap_or result 0)) sink (unwrap_or result 0) }
 {
@@ -103,6 +105,7 @@ impl Table<Tap, TAPS> {
 
     // The turn of tap k at a tick: what it moved, where it and its ends are open.
     pub fn run(&mut self, k: usize, reserves: &mut Reserves) -> Option<u32>
+        ensures runs { is_some result ≡ runs reserves.old.rows (slice_index_or self.old.rows k None) }
         ensures ran { Ran k reserves.old.rows self.old.rows (unwrap_or result 0) reserves.new.rows self.new.rows }
     {
         let tap = self.at(k)?;
