@@ -77,7 +77,7 @@ impl Session {
 
 impl Script for Session {
     ghost hears = { Logged };
-    // The end tells the counts and the totals, and counts nothing.
+    // Neither the end nor a flush counts anything.
     ghost ends = { λ s s'. (s'.recount ≡ s.recount) × (s'.ticks ≡ s.ticks) };
 
     ghost flushes = { λ s s'. (s'.simulator ≡ s.simulator) × (s'.recount ≡ s.recount) × (s'.ticks ≡ s.ticks) };

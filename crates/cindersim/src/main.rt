@@ -103,15 +103,15 @@ impl<W: Write + Drop> Session<W> {
         Ok(())
     }
 
-    // Answers a line, where there is room. It is never inlined, so that `line` is small and is: the result of `line` is large,
-    // and would be cleared and copied each time.
+    // Answers a line, where there is room. It is never inlined, so that `line` is small, and is inlined: the result of `line`
+    // is large, and would be cleared and copied each time.
     #[inline(never)]
     fn answer(&mut self, line: &[u8])
         requires { self.old.len + 160 ≤ 65536 }
         ensures replies { (r : Result Answer FrameFault) × Replies self.old.simulator line.now r self.new.simulator × (take self.new.len self.new.buffer ≡ take self.old.len self.old.buffer ++ written (reply_bytes r)) }
         ensures same { self.new.output ≡ self.old.output }
     {
-        // The rest of the buffer is as long as an answer may ask, so there is one.
+        // The rest of the buffer is as long as an answer may ask, so it is written.
         if let Ok(len) = self.simulator.answer(line, &mut self.buffer[self.len..]) {
             self.len += len;
         }
@@ -121,7 +121,7 @@ impl<W: Write + Drop> Session<W> {
 impl<W: Write + Drop> Script for Session<W> {
     // The simulator replies to the line, and its answer stands last.
     ghost hears = { λ s line s'. (r : Result Answer FrameFault) × Replies s.simulator line r s'.simulator × Grows (W.contents s.output) (take s.len s.buffer) (W.contents s'.output) (take s'.len s'.buffer) (written (reply_bytes r)) };
-    // No answer is left for the end, and a flush writes those that are held.
+    // The end answers nothing, and a flush writes the answers that are held.
     ghost ends = { λ s s'. s' ≡ s };
 
     ghost flushes = { λ s s'. (s'.len ≡ 0) × Appends (W.contents s.output) (W.contents s'.output) (take s.len s.buffer) × (s'.simulator ≡ s.simulator) };

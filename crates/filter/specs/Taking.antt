@@ -1,5 +1,5 @@
 -- A script that is taken to its end: what its lines, its end and the flushes between do. Assumes nothing.
---     Passed G s ls s'      the lines ls, the first 81 bytes of each, lead in their order from s to s', with flushes before, between and after them
+--     Passed G s ls s'      the lines ls, the first 81 bytes of each, lead in their order from s to s', with any number of flushes, or none, before, between and after them
 --     lines_in bs           the lines of the script bs; a last one that is not empty may lack its line feed
 --     Taken G s bs s'       the script bs leads from s to s': its lines, then its end, then a flush
 use Rattle.std.specs.Prelude.{ℕ, List, [], ◌∷◌, ◌++◌}

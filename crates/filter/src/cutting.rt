@@ -45,8 +45,8 @@ impl<'a, S: Script> Cutter<'a, S> {
         }
     }
 
-    // Hands over the line that ends with these bytes, and begins the next. Made part of the loop that calls it, since its
-    // result is large and would be copied at each line.
+    // Hands over the line that ends with these bytes, and begins the next. It is inlined, since its result is large and would
+    // be copied at each line.
     #[inline(always)]
     fn finish(&mut self, end: &[u8]) -> io::Result<()>
         ensures same { self.new.script.ghost_name ≡ self.old.script.ghost_name }

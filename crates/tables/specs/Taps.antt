@@ -5,17 +5,16 @@
 --     with_remainder r o      the row o with the remainder r, if it is open
 --     stepped o               the row o after a tick: its remainder has advanced
 --     ends_at i o             the tap o begins or ends at reserve i
---     has_rate t              the tap t has a rate
---     runs rs o               the tap o runs where the reserves stand as rs: it has a rate, and it and its ends are open
 --     figure_of rs o          what the tap o moves at its turn, where the reserves stand as rs
 --     moved rs o q            the reserves after the tap o moved q
 --     after_moves rs ts qs    the reserves after the taps ts, in their order, moved the figures qs
 --     Figures rs ts qs        the figures are those of the taps, each at its turn
 --     TapFits o               the row o, if one is there, has a rate
+--     Moves rs o              a tap is at the row o, it has a rate, and both its ends are open where the reserves stand as rs
 --     Ran k rs ts q rs' ts'   what tap k's turn moved, and what it left
 --     AllFit ts               there are 96 rows, and every open tap has a rate
 --     Turns rs ts qs rs' ts'  what the turns of all taps moved, and what they left
-use Rattle.std.specs.Prelude.{◌≡◌, ℕ, min, Bool, false, ◌&&◌, ◌||◌, List, [], ◌∷◌, length, map, replicate, Some, None, Option, ◌==◌, nat_le, nat_lt, slice_index_or, slice_set}
+use Rattle.std.specs.Prelude.{◌≡◌, ℕ, min, Bool, true, false, ◌||◌, List, [], ◌∷◌, length, map, replicate, Some, None, Option, ◌==◌, slice_index_or, slice_set}
 use Rattle.rates.specs.Rate.{Fits, due, remainder}
 use Rattle.tables.specs.declared.taps.Tap.{Tap}
 use Rattle.tables.specs.Rows.{present}
@@ -41,13 +40,6 @@ stepped (Some t) = with_remainder (remainder t.n t.d t.r) (Some t)
 abbrev pub ends_at : ℕ → Option Tap → Bool
 ends_at i None = false
 ends_at i (Some t) = t.source == i || t.sink == i
-
-abbrev pub has_rate : Tap → Bool
-has_rate t = nat_le t.n 1000000 && (nat_le t.d 65535 && nat_lt t.r t.d)
-
-abbrev pub runs : ReserveRows → Option Tap → Bool
-runs rs None = false
-runs rs (Some t) = has_rate t && (present rs t.source && present rs t.sink)
 
 -- the least of its due, the source's level and the sink's headroom
 abbrev pub moves_at : ReserveRows → Tap → ℕ
@@ -76,6 +68,10 @@ Figures rs (t ∷ ts) (q ∷ qs) = (q ≡ figure_of rs t) × Figures (moved rs t
 abbrev pub TapFits : Option Tap → Type 0
 TapFits None = Unit {0}
 TapFits (Some t) = Fits t.n t.d t.r
+
+abbrev pub Moves : ReserveRows → Option Tap → Type 0
+Moves rs None = ⊥
+Moves rs (Some t) = Fits t.n t.d t.r × (present rs t.source ≡ true) × (present rs t.sink ≡ true)
 
 -- the due moves as far as it can, and lapses otherwise; a row from which no rate can be made moves nothing
 pub record Ran (k : ℕ) (rs : ReserveRows) (ts : TapRows) (q : ℕ) (rs' : ReserveRows) (ts' : TapRows) : Type 0 where

@@ -5,7 +5,7 @@ ghost use Rattle.std.specs.List.{list_any};
 ghost use Rattle.std.specs.Option.{is_some, unwrap_or};
 ghost use Rattle.tables.specs.Rows.{present};
 ghost use Rattle.tables.specs.Reserves.{level_at, headroom, give, lower};
-ghost use Rattle.tables.specs.Taps.{first_taps, tap_due, with_remainder, ends_at, runs, Ran};
+ghost use Rattle.tables.specs.Taps.{first_taps, tap_due, with_remainder, ends_at, Moves, Ran};
 
 use crate::reserves::{RESERVES, Reserve, Reserves};
 use crate::table::Table;
@@ -44,7 +44,8 @@ fn touches(row: Option<Tap>, i: u8) -> bool
     row.is_some_and(|tap| tap.source == i || tap.sink == i)
 }
 
-// What of a due can move. The sum of level and due is a `u64`, which holds it whatever the rows are.
+// What of a due can move. The sum of the sink's level and what the source has of the due is a `u64`, which holds it whatever
+// the rows are.
 fn movable(due: u32, from: Reserve, to: Reserve) -> u32
     ensures result { result ≡ min due (min from.level (to.limit - to.level)) }
 {
@@ -58,7 +59,7 @@ fn movable(due: u32, from: Reserve, to: Reserve) -> u32
 
 // Moves what is due, as far as the source has it and the sink has room for it: what it moved, where both are open.
 fn carry(reserves: &mut Reserves, source: u8, sink: u8, due: u32) -> Option<u32>
-    ensures runs { is_some result ≡ (present reserves.old.rows source && present reserves.old.rows sink) }
+    ensures moves { is_some result ≡ (present reserves.old.rows source && present reserves.old.rows sink) }
     ensures result { unwrap_or result 0 ≡ min due (min (level_at reserves.old.rows source) (headroom reserves.old.rows sink)) }
     ensures after { reserves.new.rows ≡ give (lower reserves.old.rows source (unwrap_or result 0)) sink (unwrap_or result 0) }
 {
@@ -103,9 +104,9 @@ impl Table<Tap, TAPS> {
         }
     }
 
-    // The turn of tap k at a tick: what it moved, where it and its ends are open.
+    // The turn of tap k at a tick: what it moved, where it has a rate and it and its ends are open.
     pub fn run(&mut self, k: usize, reserves: &mut Reserves) -> Option<u32>
-        ensures runs { is_some result ≡ runs reserves.old.rows (slice_index_or self.old.rows k None) }
+        ensures moves { MatchOption result (Moves reserves.old.rows (slice_index_or self.old.rows k None) → ⊥) (λ _. Moves reserves.old.rows (slice_index_or self.old.rows k None)) }
         ensures ran { Ran k reserves.old.rows self.old.rows (unwrap_or result 0) reserves.new.rows self.new.rows }
     {
         let tap = self.at(k)?;
