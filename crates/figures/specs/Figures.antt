@@ -5,6 +5,7 @@
 --     fault_at q           the fault of a draw of q from it
 --     leaky h r            leakage of 1,000 parts, with the remainder r, over a capacitor of 100 that holds h
 --     leaky_store          its members as a store
+--     Becomes x y z        after the change x such a store y may be z, by what it tells, and nothing else
 --     cells_of a b c       a bank of cells of 5, 3 and 2 that hold a, b and c
 --     child level          a reserve under the root
 --     three                a root and two reserves, with 3, 2 and 5
@@ -13,8 +14,8 @@ use Rattle.std.specs.Prelude.{◌≡◌, ℕ, zero, suc, ◌-◌, List, [], ◌�
 use Rattle.rates.specs.Rate.{due, remainder}
 use Rattle.store.specs.declared.capacitor.Capacitor.{Capacitor}
 use Rattle.store.specs.declared.fault.Fault.{Fault}
-use Rattle.store.specs.Meaning.{Meaning, charge, draw, tick, fault_from}
-use Rattle.store.specs.Capacitor.{capacitor_means, capacitor_store}
+use Rattle.store.specs.Meaning.{Meaning, Change, charge, draw, tick, exactly, fault_from}
+use Rattle.store.specs.Capacitor.{capacitor_means, capacitor_after, capacitor_store}
 use Rattle.store.specs.Cell.{cell}
 use Rattle.store.specs.declared.bank.Bank.{Bank}
 use Rattle.store.specs.declared.store.Store.{Ghosts}
@@ -23,7 +24,7 @@ use Rattle.layers.specs.declared.floor.Floor.{Floor}
 use Rattle.layers.specs.declared.layered.Layered.{Layered}
 use Rattle.layers.specs.Floor.{floor_means}
 use Rattle.layers.specs.declared.leakage.Leakage.{Leakage}
-use Rattle.layers.specs.Leakage.{leakage_store}
+use Rattle.layers.specs.Leakage.{leakage_store, leakage_after}
 use Rattle.tables.specs.declared.reserves.Reserve.{Reserve}
 use Rattle.tables.specs.Reserves.{ReserveRows, first_reserves, level_at, charge_loss}
 use Rattle.node.specs.Calls.{settled}
@@ -50,6 +51,13 @@ leaky held remainder = record { below = holding 100 held; layer = record { part 
 abbrev pub leaky_store : Ghosts (Layered Capacitor Leakage)
 leaky_store = leakage_store capacitor_store
 
+-- what such a store tells of its value after a change
+abbrev pub leaky_after : Change → Layered Capacitor Leakage → Layered Capacitor Leakage → Type 0
+leaky_after = leakage_after capacitor_store (exactly capacitor_after)
+
+abbrev pub Becomes : Change → Layered Capacitor Leakage → Layered Capacitor Leakage → Type 0
+Becomes x y z = leaky_after x y z × ((other : Layered Capacitor Leakage) → leaky_after x y other → other ≡ z)
+
 -- a bank of cells of 5, 3 and 2 that hold so much
 abbrev pub cells_of : ℕ → ℕ → ℕ → Bank
 cells_of a b c = with_cells (cell 5 a ∷ cell 3 b ∷ cell 2 c ∷ [])
@@ -66,8 +74,8 @@ pub record Figures : Type 0 where
   pub thirds : dues 6 1 3 0 ≡ 0 ∷ 0 ∷ 1 ∷ 0 ∷ 0 ∷ 1 ∷ []
   pub halves : dues 4 7 2 0 ≡ 3 ∷ 4 ∷ 3 ∷ 4 ∷ []
   -- leakage of 1,000 parts at held 25, which leaves 23, and then at 23, which leaves 21
-  pub first_leak : (leaky_store.coming_loss (leaky 25 0) ≡ 2) × (leaky_store.after tick (leaky 25 0) ≡ leaky 23 5000)
-  pub second_leak : (leaky_store.coming_loss (leaky 23 5000) ≡ 2) × (leaky_store.after tick (leaky 23 5000) ≡ leaky 21 8000)
+  pub first_leak : (leaky_store.coming_loss (leaky 25 0) ≡ 2) × Becomes tick (leaky 25 0) (leaky 23 5000)
+  pub second_leak : (leaky_store.coming_loss (leaky 23 5000) ≡ 2) × Becomes tick (leaky 23 5000) (leaky 21 8000)
   -- cells of 5, 3 and 2: a charge of 7, and then a draw of 3
   pub cells_charged : bank_after (charge 7) (cells_of 0 0 0) ≡ cells_of 5 2 0
   pub cells_drawn : bank_after (draw 3) (cells_of 5 2 0) ≡ cells_of 4 0 0

@@ -45,7 +45,6 @@ battery_store = record {
   capacity = λ b. (battery_means b).capacity;
   stages = λ b. (battery_means b).stages;
   coming_loss = λ b. min 1 b.cell.held;
-  after = battery_after;
   sound = BatterySound;
   KIND = 66;
 }

@@ -1,3 +1,4 @@
 pub mod Battery
 pub mod Standby
+pub mod Measured
 pub mod Laws

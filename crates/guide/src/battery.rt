@@ -1,10 +1,11 @@
 // A battery: it comes full, all that it holds is available, and a tick loses 1 quantum of it.
-ghost use Rattle.std.specs.Prelude.{◌≡◌, IfOk};
+ghost use Rattle.std.specs.Prelude.{◌≡◌, IfOk, refl};
+ghost use Rattle.store.specs.Meaning.{exactly};
 ghost use Rattle.guide.specs.Battery.{new_battery, battery_means, battery_after, BatterySound, battery_store};
 ghost use Rattle.guide.specs.Laws.{battery_laws};
 
 use rates::{G, OutOfRange};
-use store::{Cell, Fault, Store};
+use store::{Cell, Fault, Store, Told};
 
 // What a tick loses, while anything is held.
 const SELF_DISCHARGE: u32 = 1;
@@ -29,6 +30,11 @@ impl Battery {
     }
 }
 
+// Its next value is a function of what it is: it is told exactly.
+impl Told for Battery {
+    ghost after = { exactly battery_after };
+}
+
 // Written out in full, as an example of a store of one's own: each call is its cell's.
 impl Store for Battery {
     ghost held = { λ b. (battery_means b).held };
@@ -39,8 +45,6 @@ impl Store for Battery {
 
     ghost coming_loss = { battery_store.coming_loss };
 
-    ghost after = { battery_after };
-
     ghost sound = { BatterySound };
 
     const KIND: u8 = b'B';
@@ -48,6 +52,8 @@ impl Store for Battery {
     ghost KIND = { battery_store.KIND };
 
     ghost means = { battery_laws };
+
+    ghost on_top = { λ _ s. refl };
 
     fn held(&self) -> u32 {
         self.cell.held()

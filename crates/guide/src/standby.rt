@@ -30,9 +30,11 @@ impl Layer for Standby {
         below
     }
 
-    fn leak(&mut self, _held: u32) -> u32 {
+    fn leak(&self, _held: u32) -> u32 {
         self.amount
     }
+
+    fn tick(&mut self, _held: u32) {}
 
     ghost lettered = { tt };
 

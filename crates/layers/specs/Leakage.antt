@@ -6,14 +6,16 @@
 --     leakage_layer            a leakage's members as a layer: its kind is L, it leaves what is available below, and a tick
 --                              lets leak_of leak and keeps the remainder
 --     leakage_store G          the members, as a store, of a leakage over a store whose members are G
+--     leakage_after G A        what it tells of the value after a change, over a store of which A tells
 use Rattle.std.specs.Prelude.{ℕ, ◌+◌, ◌*◌, ◌/◌, ◌%◌, ◌<◌, ◌≤◌, cond, Ok, Err, Result, nat_le}
 use Rattle.rates.specs.Amount.{whole}
 use Rattle.rates.specs.declared.amount.OutOfRange.{OutOfRange}
 use Rattle.store.specs.declared.store.Store.{Ghosts}
+use Rattle.store.specs.Meaning.{Change}
 use Rattle.layers.specs.declared.layer.Layer.{Ghosts as LayerGhosts}
 use Rattle.layers.specs.declared.layered.Layered.{Layered}
 use Rattle.layers.specs.declared.leakage.Leakage.{Leakage}
-use Rattle.layers.specs.Layered.{layered_store}
+use Rattle.layers.specs.Layered.{layered_after, layered_store}
 
 abbrev pub new_leakage : ℕ → Result Leakage OutOfRange
 new_leakage p = cond (nat_le p whole) (Ok (record { part = p; remainder = 0 })) (Err (record {}))
@@ -38,3 +40,6 @@ leakage_layer = record {
 
 abbrev pub leakage_store : {S : Type 0} → Ghosts S → Ghosts (Layered S Leakage)
 leakage_store G = layered_store G leakage_layer
+
+abbrev pub leakage_after : {S : Type 0} → Ghosts S → (Change → S → S → Type 0) → Change → Layered S Leakage → Layered S Leakage → Type 0
+leakage_after G A = layered_after G leakage_layer A

@@ -30,9 +30,11 @@ impl Layer for Floor {
         below.saturating_sub(self.amount)
     }
 
-    fn leak(&mut self, _held: u32) -> u32 {
+    fn leak(&self, _held: u32) -> u32 {
         0
     }
+
+    fn tick(&mut self, _held: u32) {}
 
     ghost lettered = { tt };
 

@@ -26,10 +26,13 @@ pub trait Layer {
     fn leaves(&self, below: u32) -> u32
         ensures result { sound self.now → result ≡ leaves self.now below };
 
+    // How much a tick will let leak from a store that holds so much.
+    fn leak(&self, held: u32) -> u32
+        ensures result { sound self.now → result ≡ leak self.now held };
+
     // A tick passes over a store that holds so much.
-    fn leak(&mut self, held: u32) -> u32
+    fn tick(&mut self, held: u32)
         ensures sound { sound self.old → sound self.new }
-        ensures result { sound self.old → result ≡ leak self.old held }
         ensures after { sound self.old → self.new ≡ after self.old held };
 
     // This layer over the store.

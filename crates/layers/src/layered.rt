@@ -1,9 +1,10 @@
-// A layer over a store. The layer adds one stage on top, and passes on all that it does not change.
+// A layer over a store: a store again, with the layer's stage on top. A call that the layer has no part in goes to the
+// store below as it is.
 ghost use Rattle.layers.specs.Layered.{layered_means, layered_loss, layered_after, LayeredSound};
-ghost use Rattle.store.proofs.Stages.{sound_more};
+ghost use Rattle.store.proofs.Stages.{sound_more, top_kind_more};
 
 use crate::layer::Layer;
-use store::{Fault, Store};
+use store::{Fault, Store, Told};
 
 #[derive(Drop)]
 pub struct Layered<S, L> {
@@ -11,24 +12,28 @@ pub struct Layered<S, L> {
     pub(crate) layer: L,
 }
 
+impl<S: Store, L: Layer> Told for Layered<S, L> {
+    ghost after = { layered_after (S.Store.own) (L.Layer) (S.after) };
+}
+
 impl<S: Store, L: Layer> Store for Layered<S, L> {
-    ghost held = { λ y. (layered_means (S.Store) (L.Layer) y).held };
+    ghost held = { λ y. (layered_means (S.Store.own) (L.Layer) y).held };
 
-    ghost capacity = { λ y. (layered_means (S.Store) (L.Layer) y).capacity };
+    ghost capacity = { λ y. (layered_means (S.Store.own) (L.Layer) y).capacity };
 
-    ghost stages = { λ y. (layered_means (S.Store) (L.Layer) y).stages };
+    ghost stages = { λ y. (layered_means (S.Store.own) (L.Layer) y).stages };
 
-    ghost coming_loss = { layered_loss (S.Store) (L.Layer) };
+    ghost coming_loss = { layered_loss (S.Store.own) (L.Layer) };
 
-    ghost after = { layered_after (S.Store) (L.Layer) };
-
-    ghost sound = { LayeredSound (S.Store) (L.Layer) };
+    ghost sound = { LayeredSound (S.Store.own) (L.Layer) };
 
     const KIND: u8 = L::KIND;
 
     ghost KIND = { L.Layer.KIND };
 
     ghost means = { λ y s. sound_more _ _ (S.Store.means y.below s.0) (L.Layer.lettered) (L.Layer.under y.layer _ s.1) };
+
+    ghost on_top = { λ y _. top_kind_more (S.Store.stages y.below) _ };
 
     fn held(&self) -> u32 {
         self.below.held()
@@ -71,7 +76,9 @@ impl<S: Store, L: Layer> Store for Layered<S, L> {
     // The leak is drained, not drawn, so that no floor below stops it.
     fn tick(&mut self) -> u32 {
         let loss = self.below.tick();
-        let leak = self.layer.leak(self.below.held());
+        let held = self.below.held();
+        let leak = self.layer.leak(held);
+        self.layer.tick(held);
         let gone = self.below.drain(leak);
         loss.saturating_add(gone)
     }

@@ -1,5 +1,5 @@
 // Leakage: at each tick a part of what the store below holds is lost.
-ghost use Rattle.std.specs.Prelude.{◌≡◌, IfOk, refl};
+ghost use Rattle.std.specs.Prelude.{◌≡◌, ◌+◌, ◌*◌, IfOk, refl};
 ghost use Rattle.layers.specs.Leakage.{new_leakage, LeakSound, leakage_layer};
 ghost use Rattle.layers.specs.Laws.{all_under};
 
@@ -24,6 +24,13 @@ impl Leakage {
         }
         Ok(Leakage { part, remainder: 0 })
     }
+
+    // What leaks of so much, and what was left over, in ten-thousandths of a quantum.
+    fn due(&self, held: u32) -> u64
+        ensures result { result ≡ held * self.now.part + self.now.remainder }
+    {
+        u64::from(held) * u64::from(self.part) + u64::from(self.remainder)
+    }
 }
 
 impl Layer for Leakage {
@@ -41,10 +48,12 @@ impl Layer for Leakage {
         below
     }
 
-    fn leak(&mut self, held: u32) -> u32 {
-        let t = u64::from(held) * u64::from(self.part) + u64::from(self.remainder);
-        self.remainder = (t % u64::from(PARTS)) as u16;
-        (t / u64::from(PARTS)).min(u64::from(held)) as u32
+    fn leak(&self, held: u32) -> u32 {
+        (self.due(held) / u64::from(PARTS)).min(u64::from(held)) as u32
+    }
+
+    fn tick(&mut self, held: u32) {
+        self.remainder = (self.due(held) % u64::from(PARTS)) as u16;
     }
 
     ghost lettered = { tt };

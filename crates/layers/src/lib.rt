@@ -5,8 +5,10 @@ mod floor;
 mod layer;
 mod layered;
 mod leakage;
+mod told;
 
 pub use floor::Floor;
 pub use layer::Layer;
 pub use layered::Layered;
 pub use leakage::Leakage;
+pub use told::told_is_one;

@@ -4,8 +4,10 @@
 --     Marked p serial n m    m is n with the grant of this serial parked (p true) or out (p false)
 --     state G n              its state: the store's meaning, where it stands, and its books
 --     SoundNode G n          its store is sound, and its state is whole
---     Stored G s e s'        s' is what the event e makes of the store s
+--     Between G A s loss b   b is the sound store s after a tick that lost so much, of which A tells
+--     Stored G A s e s'      s' is what the event e makes of the store s, where A tells of the value after a change
 --     Extends G n e m        from a sound node n, the event e leads to m, which is sound
+--     Called G A n e m       the same, and what became of the store
 --     Newborn G s n          n is a new node over the store s
 --     DrawnFor G t i q s r s'       s' is the store s after a draw of q for task t from reserve i that answered r
 --     refusal_of r           why a call was refused, if it was
@@ -13,7 +15,7 @@
 --                            the event of each call, by its arguments and its answer
 use Rattle.std.specs.Prelude.{◌≡◌, ℕ, ◌-◌, Bool, true, List, length, take, Some, None, Ok, Err, Option, Result}
 use Rattle.store.specs.declared.store.Store.{Ghosts}
-use Rattle.store.specs.Meaning.{Meaning, charge, draw, tick as store_tick, meaning, Drawn}
+use Rattle.store.specs.Meaning.{Meaning, Change, charge, draw, tick as store_tick, meaning, Drawn, Ticked}
 use Rattle.tables.specs.Grants.{open_in, fits_out, marked}
 use Rattle.tables.specs.Books.{first_books}
 use Rattle.node.specs.declared.denial.Denial.{Denial}
@@ -54,23 +56,8 @@ module _ {S : Type 0} (G : Ghosts S) where
     pub store : G.sound n.store
     pub whole : Whole (state n)
 
-  -- a grant draws its amount, and a settlement charges what was not used; a tick ticks the store, tells the loss that was
-  -- coming, and then charges the harvest; no other call touches the store
-  abbrev pub Stored : S → Event → S → Type 0
-  Stored s (refused call why) s' = s' ≡ s
-  Stored s (opened task parent number owner limit amount) s' = s' ≡ s
-  Stored s (closed task number) s' = s' ≡ s
-  Stored s (tapped task tap source sink n d) s' = s' ≡ s
-  Stored s (shut task tap) s' = s' ≡ s
-  Stored s (granted task reserve amount serial) s' = s' ≡ G.after (draw amount) s
-  Stored s (settled serial amount used lost) s' = s' ≡ G.after (charge (amount - used)) s
-  Stored s (parked serial amount) s' = s' ≡ s
-  Stored s (recalled task serial amount) s' = s' ≡ s
-  Stored s (ticked harvest loss intake figures) s' = (loss ≡ G.coming_loss s) × (s' ≡ G.after (charge harvest) (G.after store_tick s))
-  Stored s (audited t) s' = s' ≡ s
-
   abbrev pub Extends : Node S → Event → Node S → Type 0
-  Extends n e m = SoundNode n → SoundNode m × Step (state n) e (state m) × Stored n.store e m.store
+  Extends n e m = SoundNode n → SoundNode m × Step (state n) e (state m)
 
   -- only the root is open, whose level is what the store holds
   pub record Newborn (over : S) (n : Node S) : Type 0 where
@@ -81,9 +68,38 @@ module _ {S : Type 0} (G : Ghosts S) where
 
   -- a fault is told with the task and the reserve that met it
   abbrev pub DrawnFor : ℕ → ℕ → ℕ → S → Result (Unit {0}) Overdraw → S → Type 0
-  DrawnFor task reserve q s (Ok u) s' = (G.sound s → G.sound s' × Drawn q (meaning G.held G.capacity G.stages s) (Ok u) (meaning G.held G.capacity G.stages s') × (s' ≡ G.after (draw q) s))
+  DrawnFor task reserve q s (Ok u) s' = (G.sound s → G.sound s' × Drawn q (meaning G.held G.capacity G.stages s) (Ok u) (meaning G.held G.capacity G.stages s'))
   DrawnFor task reserve q s (Err o) s' =
       (o.task ≡ task) × (o.reserve ≡ reserve) × (G.sound s → Drawn q (meaning G.held G.capacity G.stages s) (Err o.fault) (meaning G.held G.capacity G.stages s'))
+
+-- which value a call makes of the store, where A tells which values may stand after a change
+module _ {S : Type 0} (G : Ghosts S) (A : Change → S → S → Type 0) where
+  -- a tick of the store has passed, and the harvest has not been charged yet
+  pub record Between (s : S) (loss : ℕ) (b : S) : Type 0 where
+    pub sound : G.sound b
+    pub ticked : Ticked (meaning G.held G.capacity G.stages s) loss (meaning G.held G.capacity G.stages b)
+    pub told : A store_tick s b
+
+  -- a grant draws its amount, and a settlement charges what was not used; a tick ticks the store, tells the loss that was
+  -- coming, and then charges the harvest; no other call touches the store
+  abbrev pub Stored : S → Event → S → Type 0
+  Stored s (refused call why) s' = s' ≡ s
+  Stored s (opened task parent number owner limit amount) s' = s' ≡ s
+  Stored s (closed task number) s' = s' ≡ s
+  Stored s (tapped task tap source sink n d) s' = s' ≡ s
+  Stored s (shut task tap) s' = s' ≡ s
+  Stored s (granted task reserve amount serial) s' = G.sound s → A (draw amount) s s'
+  Stored s (settled serial amount used lost) s' = G.sound s → A (charge (amount - used)) s s'
+  Stored s (parked serial amount) s' = s' ≡ s
+  Stored s (recalled task serial amount) s' = s' ≡ s
+  Stored s (ticked harvest loss intake figures) s' =
+      G.sound s → (loss ≡ G.coming_loss s) × ((b : S) × Between s loss b × A (charge harvest) b s')
+  Stored s (audited t) s' = s' ≡ s
+
+  -- all that a call of the node n says of the node m which it leaves
+  pub record Called (n : Node S) (e : Event) (m : Node S) : Type 0 where
+    pub step : Extends G n e m
+    pub stored : Stored n.store e m.store
 
 abbrev pub opening : ℕ → ℕ → ℕ → ℕ → ℕ → ℕ → Result (Unit {0}) Denial → Event
 opening task parent number owner limit amount (Ok _) = opened task parent number owner limit amount

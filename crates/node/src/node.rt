@@ -1,12 +1,12 @@
 // A node: reserves, taps and grants over a store of harvested energy.
 ghost use Rattle.std.specs.Prelude.{◌≡◌, ◌-◌, ◌≤◌, true, false, length, take, drop, IfOk, IfErr, OnErr, OnOk};
-ghost use Rattle.store.specs.Meaning.{Meaning};
+ghost use Rattle.store.specs.Meaning.{Meaning, draw};
 ghost use Rattle.tables.specs.Taps.{AllFit, Turns};
 ghost use Rattle.node.specs.Calls.{settle as settlement, park as park_call, recall as recall_call, audited};
 ghost use Rattle.node.specs.Rules.{turned_down};
 ghost use Rattle.node.specs.Runs.{Lawful};
 ghost use Rattle.node.specs.Steps.{verdict};
-ghost use Rattle.node.specs.Node.{standing_of, IsOut, Marked, Newborn, Extends, opening, closing, tapping, shutting};
+ghost use Rattle.node.specs.Node.{standing_of, IsOut, Marked, Newborn, Extends, Stored, opening, closing, tapping, shutting};
 ghost use Rattle.node.specs.Node.{granting, settling, parking, recalling, ticking, DrawnFor};
 
 use crate::denial::{Denial, Overdraw};
@@ -33,8 +33,9 @@ pub struct Node<S> {
 
 // Draws for a task, from a reserve of its: a fault is told with both.
 fn draw<S: Store>(store: &mut S, task: u8, reserve: u8, amount: u32) -> Result<(), Overdraw>
-    ensures drawn { DrawnFor (S.Store) task reserve amount store.old result store.new }
+    ensures drawn { DrawnFor (S.Store.own) task reserve amount store.old result store.new }
     ensures same { OnErr result (store.new ≡ store.old) }
+    ensures after { S.sound store.old → OnOk result (S.after (draw amount) store.old store.new) }
 {
     store.draw(amount).map_err(|fault| Overdraw {
         task,
@@ -43,8 +44,7 @@ fn draw<S: Store>(store: &mut S, task: u8, reserve: u8, amount: u32) -> Result<(
     })
 }
 
-// The turns of all taps, in ascending number: what each moved, and 0 where none is open. The rules fix this order, and a
-// loop with an index for it.
+// The turns of all taps, the one with the lowest number first: what each moved, and 0 where none is open.
 fn run_taps(taps: &mut Taps, reserves: &mut Reserves, report: &mut [u32])
     requires { 96 ≤ length report.old }
     ensures turns { AllFit taps.old.rows → Turns reserves.old.rows taps.old.rows (take 96 report.new) reserves.new.rows taps.new.rows }
@@ -58,12 +58,12 @@ fn run_taps(taps: &mut Taps, reserves: &mut Reserves, report: &mut [u32])
     }
 }
 
-// That a refused call changes nothing, and that four calls leave the store as it is, each contract says: it is said of
-// that call's answer, and no type has it.
+// That a refused call changes nothing each contract says: it is said of that call's answer, and no type has it.
 impl<S: Store> Node<S> {
     // A node over any store: only the root is open, and its level is what the store holds.
     pub fn new(store: S) -> Node<S>
-        ensures new { S.Store.sound store → Newborn (S.Store) store result }
+        ensures new { S.sound store → Newborn (S.Store.own) store result }
+        ensures stored { result.store ≡ store }
     {
         let held = store.held();
         Node {
@@ -78,9 +78,9 @@ impl<S: Store> Node<S> {
 
     // Opens a reserve under a parent that the task owns; the amount goes from the parent to it.
     pub fn open(&mut self, task: u8, reserve: NewReserve) -> Result<(), Denial>
-        ensures step { Extends (S.Store) self.old (opening task reserve.parent reserve.number reserve.owner reserve.limit reserve.amount result) self.new }
+        ensures step { Extends (S.Store.own) self.old (opening task reserve.parent reserve.number reserve.owner reserve.limit reserve.amount result) self.new }
+        ensures stored { Stored (S.Store.own) (S.after) self.old.store (opening task reserve.parent reserve.number reserve.owner reserve.limit reserve.amount result) self.new.store }
         ensures same { OnErr result (self.new ≡ self.old) }
-        ensures store { self.new.store ≡ self.old.store }
     {
         self.may_open(task, reserve)?;
         self.reserves.lower(reserve.parent, reserve.amount);
@@ -98,9 +98,9 @@ impl<S: Store> Node<S> {
 
     // Closes a reserve; its level goes to its parent up to the headroom, and what is over to the root.
     pub fn close(&mut self, task: u8, number: u8) -> Result<(), Denial>
-        ensures step { Extends (S.Store) self.old (closing task number result) self.new }
+        ensures step { Extends (S.Store.own) self.old (closing task number result) self.new }
+        ensures stored { Stored (S.Store.own) (S.after) self.old.store (closing task number result) self.new.store }
         ensures same { OnErr result (self.new ≡ self.old) }
-        ensures store { self.new.store ≡ self.old.store }
     {
         let row = self.may_close(task, number)?;
         self.reserves.close(number);
@@ -110,9 +110,9 @@ impl<S: Store> Node<S> {
 
     // Opens a tap from a source that the task owns.
     pub fn tap(&mut self, task: u8, tap: NewTap) -> Result<(), Denial>
-        ensures step { Extends (S.Store) self.old (tapping task tap.number tap.source tap.sink tap.n tap.d result) self.new }
+        ensures step { Extends (S.Store.own) self.old (tapping task tap.number tap.source tap.sink tap.n tap.d result) self.new }
+        ensures stored { Stored (S.Store.own) (S.after) self.old.store (tapping task tap.number tap.source tap.sink tap.n tap.d result) self.new.store }
         ensures same { OnErr result (self.new ≡ self.old) }
-        ensures store { self.new.store ≡ self.old.store }
     {
         self.may_tap(task, tap)?;
         self.taps.open(
@@ -129,9 +129,9 @@ impl<S: Store> Node<S> {
     }
 
     pub fn shut(&mut self, task: u8, tap: u8) -> Result<(), Denial>
-        ensures step { Extends (S.Store) self.old (shutting task tap result) self.new }
+        ensures step { Extends (S.Store.own) self.old (shutting task tap result) self.new }
+        ensures stored { Stored (S.Store.own) (S.after) self.old.store (shutting task tap result) self.new.store }
         ensures same { OnErr result (self.new ≡ self.old) }
-        ensures store { self.new.store ≡ self.old.store }
     {
         self.may_shut(task, tap)?;
         self.taps.close(tap);
@@ -140,7 +140,8 @@ impl<S: Store> Node<S> {
 
     // Draws the amount from the store, and only then lowers the level: a slip for it.
     pub fn grant(&mut self, task: u8, reserve: u8, amount: u32) -> Result<Slip, Denial>
-        ensures step { Extends (S.Store) self.old (granting task reserve amount result) self.new }
+        ensures step { Extends (S.Store.own) self.old (granting task reserve amount result) self.new }
+        ensures stored { Stored (S.Store.own) (S.after) self.old.store (granting task reserve amount result) self.new.store }
         ensures same { OnErr result (self.new ≡ self.old) }
         ensures slip { IfOk result (λ slip. (slip.amount ≡ amount) × IsOut slip self.new) }
     {
@@ -154,7 +155,8 @@ impl<S: Store> Node<S> {
 
     // The used quanta are spent, and the unused ones charged to the store: what of them is lost.
     pub fn settle(&mut self, slip: Slip, used: u32) -> Result<u32, (Denial, Slip)>
-        ensures step { Extends (S.Store) self.old (settling slip used result) self.new }
+        ensures step { Extends (S.Store.own) self.old (settling slip used result) self.new }
+        ensures stored { Stored (S.Store.own) (S.after) self.old.store (settling slip used result) self.new.store }
         ensures judged { (m : Meaning) → turned_down m (standing_of self.old) (settlement slip.serial slip.amount used) ≡ verdict (settling slip used result) }
         ensures same { IfErr result (λ e. (e.1 ≡ slip) × (self.new ≡ self.old)) }
     {
@@ -176,7 +178,8 @@ impl<S: Store> Node<S> {
 
     // Leaves the slip's serial with the node, and answers it.
     pub fn park(&mut self, slip: Slip) -> Result<u32, (Denial, Slip)>
-        ensures step { Extends (S.Store) self.old (parking slip result) self.new }
+        ensures step { Extends (S.Store.own) self.old (parking slip result) self.new }
+        ensures stored { Stored (S.Store.own) (S.after) self.old.store (parking slip result) self.new.store }
         ensures judged { (m : Meaning) → turned_down m (standing_of self.old) (park_call slip.serial slip.amount) ≡ verdict (parking slip result) }
         ensures same { IfErr result (λ e. (e.1 ≡ slip) × (self.new ≡ self.old)) }
         ensures after { IfOk result (λ serial. (serial ≡ slip.serial) × Marked true serial self.old self.new) }
@@ -191,7 +194,8 @@ impl<S: Store> Node<S> {
 
     // Turns a parked serial into a slip again, for the task that owns the reserve.
     pub fn recall(&mut self, task: u8, serial: u32) -> Result<Slip, Denial>
-        ensures step { Extends (S.Store) self.old (recalling task serial result) self.new }
+        ensures step { Extends (S.Store.own) self.old (recalling task serial result) self.new }
+        ensures stored { Stored (S.Store.own) (S.after) self.old.store (recalling task serial result) self.new.store }
         ensures same { OnErr result (self.new ≡ self.old) }
         ensures judged { (m : Meaning) → turned_down m (standing_of self.old) (recall_call task serial) ≡ verdict (recalling task serial result) }
         ensures slip { IfOk result (λ slip. (slip.serial ≡ serial) × IsOut slip self.new) }
@@ -208,7 +212,8 @@ impl<S: Store> Node<S> {
     // The store ticks and its loss is charged; the harvest is taken in; then the taps run. What was lost and taken
     // in is answered, and what each tap moved is written into the first 96 places of the report.
     pub fn tick(&mut self, harvest: u32, report: &mut [u32]) -> Result<(u32, u32), Denial>
-        ensures step { Extends (S.Store) self.old (ticking harvest report.new result) self.new }
+        ensures step { Extends (S.Store.own) self.old (ticking harvest report.new result) self.new }
+        ensures stored { Stored (S.Store.own) (S.after) self.old.store (ticking harvest report.new result) self.new.store }
         ensures same { OnErr result ((self.new ≡ self.old) × (report.new ≡ report.old)) }
         ensures further { drop 96 report.new ≡ drop 96 report.old }
         ensures grants { self.new.grants ≡ self.old.grants }
@@ -234,8 +239,9 @@ impl<S: Store> Node<S> {
 
     // The seven totals; nothing changes.
     pub fn audit(&self) -> Totals
-        ensures step { Extends (S.Store) self.now (audited result) self.now }
-        ensures law { Lawful (S.Store) self.now result }
+        ensures step { Extends (S.Store.own) self.now (audited result) self.now }
+        ensures stored { Stored (S.Store.own) (S.after) self.now.store (audited result) self.now.store }
+        ensures law { Lawful (S.Store.own) self.now result }
     {
         Totals {
             received: self.books.received,

@@ -53,7 +53,7 @@ struct Probe<S> {
 
 impl<S: Store> Probe<S> {
     fn new(store: S) -> Probe<S>
-        ensures run { S.Store.sound store → Reached (S.Store) result.node }
+        ensures run { S.sound store → Reached (S.Store.own) result.node }
         ensures tally { result.tally ≡ nothing }
     {
         Probe {
@@ -64,7 +64,7 @@ impl<S: Store> Probe<S> {
 
     // A reserve for the radio's task, and a tap from the root to it: two values, with this story's numbers.
     fn feed_radio(&mut self) -> Result<(), Denial>
-        ensures run { Reached (S.Store) self.old.node → Reached (S.Store) self.new.node }
+        ensures run { Reached (S.Store.own) self.old.node → Reached (S.Store.own) self.new.node }
         ensures tally { self.new.tally ≡ self.old.tally }
     {
         let radio = NewReserve {
@@ -87,7 +87,7 @@ impl<S: Store> Probe<S> {
 
     // Requests a grant for one send, and counts how it went; a match, since each way is counted.
     fn request(&mut self) -> Result<Slip, Denial>
-        ensures run { Reached (S.Store) self.old.node → Reached (S.Store) self.new.node }
+        ensures run { Reached (S.Store.own) self.old.node → Reached (S.Store.own) self.new.node }
         ensures tally { self.new.tally ≡ requested_for result self.old.tally }
         ensures slip { IfOk result (λ slip. (slip.amount ≡ 31) × IsOut slip self.new.node) }
     {
@@ -106,7 +106,7 @@ impl<S: Store> Probe<S> {
 
     // One send: its slip is out, so it is not refused when it is settled with all used.
     fn send(&mut self) -> Result<(), Denial>
-        ensures run { Reached (S.Store) self.old.node → Reached (S.Store) self.new.node }
+        ensures run { Reached (S.Store.own) self.old.node → Reached (S.Store.own) self.new.node }
         ensures tally { Sent self.old.tally result self.new.tally }
     {
         let slip = self.request()?;
@@ -121,7 +121,7 @@ impl<S: Store> Probe<S> {
 
     // One tick, and then a send if the dues cover it; a denial is counted, and the send left out.
     fn turn(&mut self) -> Result<(), Denial>
-        ensures run { Reached (S.Store) self.old.node → Reached (S.Store) self.new.node }
+        ensures run { Reached (S.Store.own) self.old.node → Reached (S.Store.own) self.new.node }
         ensures tally { Turned self.old.tally result self.new.tally }
         ensures covered { Covered self.old.tally → Covered self.new.tally }
     {

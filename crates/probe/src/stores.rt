@@ -8,7 +8,7 @@ use node::{Node, ROOT, ROOT_TASK, TAPS};
 use store::{Bank, Capacitor, Store};
 
 fn tick<S: Store>(rt: &impl Print, node: &mut Node<S>, harvest: u32) -> Result<(), Failure>
-    ensures run { Reached (S.Store) node.old → Reached (S.Store) node.new }
+    ensures run { Reached (S.Store.own) node.old → Reached (S.Store.own) node.new }
 {
     let mut report = [0; TAPS];
     let (loss, intake) = node.tick(harvest, &mut report)?;
@@ -18,7 +18,7 @@ fn tick<S: Store>(rt: &impl Print, node: &mut Node<S>, harvest: u32) -> Result<(
 
 // Requests a grant from the root, and settles it with all used: its slip is out, so that is not refused.
 fn spend<S: Store>(rt: &impl Print, node: &mut Node<S>, amount: u32) -> Result<(), Failure>
-    ensures run { Reached (S.Store) node.old → Reached (S.Store) node.new }
+    ensures run { Reached (S.Store.own) node.old → Reached (S.Store.own) node.new }
 {
     match node.grant(ROOT_TASK, ROOT, amount) {
         Ok(slip) => match node.settle(slip, amount) {

@@ -3,10 +3,10 @@ use Rattle.std.proofs.Common.{refl, ◌≡◌, ℕ, List, [], IfErr, Ok, Err, Re
 use Rattle.store.specs.declared.store.Store.{Ghosts}
 use Rattle.rates.specs.declared.amount.OutOfRange.{OutOfRange as Outside}
 use Rattle.node.specs.declared.node.Node.{Node}
-use Rattle.node.specs.Calls.{Event, History}
-use Rattle.node.specs.Node.{Newborn, Extends, SoundNode}
-use Rattle.node.specs.Runs.{Run, new, next}
-use Rattle.node.proofs.Reaching.{called}
+use Rattle.node.specs.Calls.{Event}
+use Rattle.node.specs.Node.{Newborn, Called, SoundNode}
+use Rattle.node.specs.Runs.{new}
+use Rattle.node.proofs.Reaching.{called, run_sound}
 use Rattle.frame.specs.Frame.{frame_in}
 use Rattle.frame.specs.declared.frame.Frame.{Frame}
 use Rattle.frame.specs.declared.frame.Frame.TheVariants.{Capacitor as CapacitorFrame, Layered as LayeredFrame, Bank as BankFrame, Open, Close, Tap, Shut, Grant, Settle, Tick, Audit}
@@ -14,30 +14,35 @@ use Rattle.frame.specs.declared.fault.FrameFault.{FrameFault}
 use Rattle.frame.specs.declared.answer.Answer.{Answer}
 use Rattle.simulator.specs.declared.simulator.Simulator.{Simulator}
 use Rattle.simulator.specs.declared.simulator.Simulator.TheVariants.{Empty, Single, Layered, Cells}
-use Rattle.store.specs.Capacitor.{new_capacitor, capacitor_store}
-use Rattle.store.specs.Bank.{new_bank, bank_store}
-use Rattle.simulator.specs.Simulator.{ReachedOn, Reached, Built, Builds, Stands, ServesOn, ServesIn, Serves, Replied, Replies, layered_store, layered_of, Parks, SettledWith, Ends, SameIfRefused}
+use Rattle.store.specs.Meaning.{Change, exactly}
+use Rattle.store.specs.Capacitor.{new_capacitor, capacitor_after, capacitor_store}
+use Rattle.store.specs.Bank.{new_bank, bank_after, bank_store}
+use Rattle.simulator.specs.Simulator.{ReachedOn, Reached, Built, Builds, Stands, ServesOn, ServesIn, Serves, Replied, Replies, layered_store, layered_told, layered_of, Parks, SettledWith, Ends, SameIfRefused}
 
-module _ {S : Type 0} (G : Ghosts S) where
-  pub on : (n m : Node S) (e : Event) → Extends G n e m → ReachedOn G n → ReachedOn G m
-  on n m e x at = called x at
+-- a node that is reached is sound
+pub reached_sound : {S : Type 0} (G : Ghosts S) (n : Node S) → ReachedOn G n → SoundNode G n
+reached_sound G n at = run_sound at.2
+
+module _ {S : Type 0} (G : Ghosts S) (A : Change → S → S → Type 0) where
+  pub on : (n m : Node S) (e : Event) → Called G A n e m → ReachedOn G n → ReachedOn G m
+  on n m e x at = called x.step at
 
   stays : (n m : Node S) → m ≡ n → ReachedOn G n → ReachedOn G m
   stays n m same at = subst (ReachedOn G) (sym same) at
 
-  parks : (k m : Node S) (x : Result _ _) (r : Result Answer FrameFault) → Parks G x k r m → ReachedOn G k → ReachedOn G m
+  parks : (k m : Node S) (x : Result _ _) (r : Result Answer FrameFault) → Parks G A x k r m → ReachedOn G k → ReachedOn G m
   parks k m (Ok slip) r p at = on k m _ p.0 at
   parks k m (Err d) r p at = stays k m p.0 at
 
-  ends : (j m : Node S) (slip : _) (y : Result _ _) (r : Result Answer FrameFault) → Ends G slip y j r m → ReachedOn G j → ReachedOn G m
+  ends : (j m : Node S) (slip : _) (y : Result _ _) (r : Result Answer FrameFault) → Ends G A slip y j r m → ReachedOn G j → ReachedOn G m
   ends j m slip (Ok lost) r p at = stays j m p.0 at
   ends j m slip (Err e) r p at = on j m _ p.0 at
 
-  settles : (k m : Node S) (serial : ℕ) (x : Result _ _) (used : ℕ) (r : Result Answer FrameFault) → SettledWith G serial x used k r m → ReachedOn G k → ReachedOn G m
+  settles : (k m : Node S) (serial : ℕ) (x : Result _ _) (used : ℕ) (r : Result Answer FrameFault) → SettledWith G A serial x used k r m → ReachedOn G k → ReachedOn G m
   settles k m serial (Ok slip) used r p at = ends p.2 m slip p.1 r p.4 (on k p.2 _ p.3 at)
   settles k m serial (Err d) used r p at = stays k m p.0 at
 
-  pub serving : (n m : Node S) (f : Frame) (r : Result Answer FrameFault) → ServesOn G n f r m → ReachedOn G n → ReachedOn G m
+  pub serving : (n m : Node S) (f : Frame) (r : Result Answer FrameFault) → ServesOn G A n f r m → ReachedOn G n → ReachedOn G m
   serving n m (CapacitorFrame c) r p at = stays n m p.1 at
   serving n m (LayeredFrame c f q) r p at = stays n m p.1 at
   serving n m (BankFrame cs) r p at = stays n m p.1 at
@@ -50,15 +55,8 @@ module _ {S : Type 0} (G : Ghosts S) where
   serving n m (Tick h) r p at = on n m _ p.3 at
   serving n m Audit r p at = stays n m p.4 at
 
-  run_sound : (birth : S) (h : History) (n : Node S) → Run G birth h n → SoundNode G n
-  run_sound birth _ _ (new ok born) = born.sound
-  run_sound birth _ _ (next {h} {n} run e m x) = (x (run_sound birth h n run)).0
-
-  pub reached_sound : (n : Node S) → ReachedOn G n → SoundNode G n
-  reached_sound n at = run_sound at.0 at.1 n at.2
-
   module _ (put : Node S → Simulator) (is : (n : Node S) → ReachedOn G n → Reached (put n)) where
-    serving_in : (n : Node S) (f : Frame) (r : Result Answer FrameFault) (s' : Simulator) → ServesIn G put n f r s' → ReachedOn G n → Reached s'
+    serving_in : (n : Node S) (f : Frame) (r : Result Answer FrameFault) (s' : Simulator) → ServesIn G A put n f r s' → ReachedOn G n → Reached s'
     serving_in n f r s' p at = subst Reached (sym p.1) (is p.0 (serving n p.0 f r p.2 at))
 
     building : (x : Result S Outside) (made : Result Simulator FrameFault) (r : Result Answer FrameFault) (s' : Simulator) → Builds G put x made → Stands made r s' → Reached s'
@@ -71,9 +69,9 @@ nothing : (made : Result Simulator FrameFault) (f : FrameFault) (r : Result Answ
 nothing made f r s' is stands = subst Reached (sym (subst (λ z. Stands z r s') is stands).1) tt
 
 first : (f : Frame) (made : Result Simulator FrameFault) (r : Result Answer FrameFault) (s' : Simulator) → Built f made → Stands made r s' → Reached s'
-first (CapacitorFrame c) made r s' b stands = building capacitor_store Single (λ n x. x) (new_capacitor c) made r s' b stands
-first (LayeredFrame c f p) made r s' b stands = building layered_store Layered (λ n x. x) (layered_of c f p) made r s' b stands
-first (BankFrame cs) made r s' b stands = building bank_store Cells (λ n x. x) (new_bank cs) made r s' b stands
+first (CapacitorFrame c) made r s' b stands = building capacitor_store (exactly capacitor_after) Single (λ n x. x) (new_capacitor c) made r s' b stands
+first (LayeredFrame c f p) made r s' b stands = building layered_store layered_told Layered (λ n x. x) (layered_of c f p) made r s' b stands
+first (BankFrame cs) made r s' b stands = building bank_store (exactly bank_after) Cells (λ n x. x) (new_bank cs) made r s' b stands
 first (Open t i) made r s' b stands = nothing made _ r s' b stands
 first (Close t i) made r s' b stands = nothing made _ r s' b stands
 first (Tap t k) made r s' b stands = nothing made _ r s' b stands
@@ -86,9 +84,9 @@ first Audit made r s' b stands = nothing made _ r s' b stands
 -- whatever the frame is
 pub served : (s : Simulator) (f : Frame) (r : Result Answer FrameFault) (s' : Simulator) → Serves s f r s' → Reached s → Reached s'
 served Empty f r s' p at = first f p.0 r s' p.1 p.2
-served (Single n) f r s' p at = serving_in capacitor_store Single (λ n x. x) n f r s' p at
-served (Layered n) f r s' p at = serving_in layered_store Layered (λ n x. x) n f r s' p at
-served (Cells n) f r s' p at = serving_in bank_store Cells (λ n x. x) n f r s' p at
+served (Single n) f r s' p at = serving_in capacitor_store (exactly capacitor_after) Single (λ n x. x) n f r s' p at
+served (Layered n) f r s' p at = serving_in layered_store layered_told Layered (λ n x. x) n f r s' p at
+served (Cells n) f r s' p at = serving_in bank_store (exactly bank_after) Cells (λ n x. x) n f r s' p at
 
 replied : (s : Simulator) (f : Result Frame FrameFault) (r : Result Answer FrameFault) (s' : Simulator) → Replied s f r s' → Reached s → Reached s'
 replied s (Ok f) r s' p at = served s f r s' p at

@@ -1,12 +1,13 @@
 -- What a line is answered, which calls it stands for, and what stands after it. Assumes nothing.
 --     layered_store              the members, as a store, of a capacitor under a floor under leakage
+--     layered_told               what such a store tells of the value after a change
 --     layered_of c f p           the capacitor under a floor under leakage that these numbers make, or its refusal
 --     Reached s                  the node that stands, if one does, is reached by a run of calls from a new node over a sound store
 --     done x, told x             the answer to a call that tells nothing, and to a tick
---     Grants G n t i q r m       a grant and, where it is accepted, the parking of its slip
---     Settles G n t s u r m      a recall, where it is accepted a settlement, and where that is refused a parking
---     Ticks G n h r m            a tick with the harvest h, whose report is dropped
---     ServesOn G n f r m         what the frame f is answered by the node n, and that m is where its calls lead
+--     Grants G A n t i q r m      a grant and, where it is accepted, the parking of its slip
+--     Settles G A n t s u r m     a recall, where it is accepted a settlement, and where that is refused a parking
+--     Ticks G A n h r m          a tick with the harvest h, whose report is dropped
+--     ServesOn G A n f r m       what the frame f is answered by the node n, and that m is where its calls lead
 --     Builds G put x r           r is a new node over the store x, where x could be built, or its refusal
 --     Built f r                  what the frame f builds, where no node stands
 --     Stands made r s'           what a frame is answered where no node stood, and what stands after it
@@ -18,20 +19,21 @@ use Rattle.std.specs.Prelude.{◌≡◌, ℕ, ◌<◌, ◌≤◌, List, length, 
 use Rattle.rates.specs.declared.amount.OutOfRange.{OutOfRange as Outside}
 use Rattle.store.specs.declared.store.Store.{Ghosts}
 use Rattle.store.specs.declared.capacitor.Capacitor.{Capacitor}
-use Rattle.store.specs.Capacitor.{new_capacitor, capacitor_store}
-use Rattle.store.specs.Bank.{new_bank, bank_store}
+use Rattle.store.specs.Meaning.{Change, exactly}
+use Rattle.store.specs.Capacitor.{new_capacitor, capacitor_after, capacitor_store}
+use Rattle.store.specs.Bank.{new_bank, bank_after, bank_store}
 use Rattle.layers.specs.declared.layered.Layered.{Layered as Over}
 use Rattle.layers.specs.declared.floor.Floor.{Floor}
 use Rattle.layers.specs.declared.leakage.Leakage.{Leakage}
-use Rattle.layers.specs.Floor.{floor_store}
-use Rattle.layers.specs.Leakage.{new_leakage, leakage_store}
+use Rattle.layers.specs.Floor.{floor_store, floor_after}
+use Rattle.layers.specs.Leakage.{new_leakage, leakage_store, leakage_after}
 use Rattle.node.specs.declared.denial.Denial.{Denial}
 use Rattle.node.specs.declared.denial.Denial.TheVariants.{OutOfRange}
 use Rattle.node.specs.declared.slip.Slip.{Slip}
 use Rattle.node.specs.declared.node.Node.{Node}
 use Rattle.node.specs.declared.totals.Totals.{Totals}
 use Rattle.node.specs.Calls.{parked, audited}
-use Rattle.node.specs.Node.{Newborn, Extends, opening, closing, tapping, shutting, granting, settling, recalling, ticking}
+use Rattle.node.specs.Node.{Newborn, Called, opening, closing, tapping, shutting, granting, settling, recalling, ticking}
 use Rattle.node.specs.Runs.{Reached as ReachedNode, Lawful}
 use Rattle.frame.specs.declared.frame.Frame.{Frame}
 use Rattle.frame.specs.declared.frame.Frame.TheVariants.{Capacitor as CapacitorFrame, Layered as LayeredFrame, Bank as BankFrame, Open, Close, Tap, Shut, Grant, Settle, Tick, Audit}
@@ -49,6 +51,9 @@ Layers = Over (Over Capacitor Floor) Leakage
 
 abbrev pub layered_store : Ghosts Layers
 layered_store = leakage_store (floor_store capacitor_store)
+
+abbrev pub layered_told : Change → Layers → Layers → Type 0
+layered_told = leakage_after (floor_store capacitor_store) (floor_after capacitor_store (exactly capacitor_after))
 
 abbrev pub ReachedOn : {S : Type 0} → Ghosts S → Node S → Type 0
 ReachedOn G n = ReachedNode G n
@@ -101,27 +106,28 @@ abbrev pub told : Result (ℕ × ℕ) Denial → Result Answer FrameFault
 told (Ok a) = Ok (Ticked a.0 a.1)
 told (Err d) = Err (Denied d)
 
-module _ {S : Type 0} (G : Ghosts S) where
+-- A tells which values a store may be after each change
+module _ {S : Type 0} (G : Ghosts S) (A : Change → S → S → Type 0) where
   abbrev pub Parks : Result Slip Denial → Node S → Result Answer FrameFault → Node S → Type 0
-  Parks (Ok slip) k r m = Extends G k (parked slip.serial slip.amount) m × (r ≡ Ok (Granted slip.serial))
+  Parks (Ok slip) k r m = Called G A k (parked slip.serial slip.amount) m × (r ≡ Ok (Granted slip.serial))
   Parks (Err d) k r m = (m ≡ k) × (r ≡ Err (Denied d))
 
   abbrev pub Grants : Node S → ℕ → ℕ → ℕ → Result Answer FrameFault → Node S → Type 0
-  Grants n task reserve amount r m = (x : Result Slip Denial) × (k : Node S) × Extends G n (granting task reserve amount x) k × Parks x k r m
+  Grants n task reserve amount r m = (x : Result Slip Denial) × (k : Node S) × Called G A n (granting task reserve amount x) k × Parks x k r m
 
   abbrev pub Ends : Slip → Result ℕ (Denial × Slip) → Node S → Result Answer FrameFault → Node S → Type 0
   Ends slip (Ok lost) j r m = (m ≡ j) × (r ≡ Ok (Settled lost))
-  Ends slip (Err e) j r m = Extends G j (parked slip.serial slip.amount) m × (r ≡ Err (Denied e.0))
+  Ends slip (Err e) j r m = Called G A j (parked slip.serial slip.amount) m × (r ≡ Err (Denied e.0))
 
   abbrev pub SettledWith : ℕ → Result Slip Denial → ℕ → Node S → Result Answer FrameFault → Node S → Type 0
-  SettledWith serial (Ok slip) used k r m = (slip.serial ≡ serial) × (y : Result ℕ (Denial × Slip)) × (j : Node S) × Extends G k (settling slip used y) j × Ends slip y j r m
+  SettledWith serial (Ok slip) used k r m = (slip.serial ≡ serial) × (y : Result ℕ (Denial × Slip)) × (j : Node S) × Called G A k (settling slip used y) j × Ends slip y j r m
   SettledWith serial (Err d) used k r m = (m ≡ k) × (r ≡ Err (Denied d))
 
   abbrev pub Settles : Node S → ℕ → ℕ → ℕ → Result Answer FrameFault → Node S → Type 0
-  Settles n task serial used r m = (x : Result Slip Denial) × (k : Node S) × Extends G n (recalling task serial x) k × SettledWith serial x used k r m
+  Settles n task serial used r m = (x : Result Slip Denial) × (k : Node S) × Called G A n (recalling task serial x) k × SettledWith serial x used k r m
 
   abbrev pub Ticks : Node S → ℕ → Result Answer FrameFault → Node S → Type 0
-  Ticks n harvest r m = (report : List ℕ) × (length report ≡ 96) × (x : Result (ℕ × ℕ) Denial) × Extends G n (ticking harvest report x) m × (r ≡ told x)
+  Ticks n harvest r m = (report : List ℕ) × (length report ≡ 96) × (x : Result (ℕ × ℕ) Denial) × Called G A n (ticking harvest report x) m × (r ≡ told x)
 
   abbrev pub Turned : Node S → Result Answer FrameFault → Node S → Type 0
   Turned n r m = (r ≡ Err OutOfTurn) × (m ≡ n)
@@ -131,23 +137,23 @@ module _ {S : Type 0} (G : Ghosts S) where
   ServesOn n (CapacitorFrame c) r m = Turned n r m
   ServesOn n (LayeredFrame c f p) r m = Turned n r m
   ServesOn n (BankFrame cs) r m = Turned n r m
-  ServesOn n (Open t i) r m = (x : Result (Unit {0}) Denial) × Extends G n (opening t i.parent i.number i.owner i.limit i.amount x) m × (m.store ≡ n.store) × (r ≡ done x)
-  ServesOn n (Close t i) r m = (x : Result (Unit {0}) Denial) × Extends G n (closing t i x) m × (m.store ≡ n.store) × (r ≡ done x)
-  ServesOn n (Tap t k) r m = (x : Result (Unit {0}) Denial) × Extends G n (tapping t k.number k.source k.sink k.n k.d x) m × (m.store ≡ n.store) × (r ≡ done x)
-  ServesOn n (Shut t k) r m = (x : Result (Unit {0}) Denial) × Extends G n (shutting t k x) m × (m.store ≡ n.store) × (r ≡ done x)
+  ServesOn n (Open t i) r m = (x : Result (Unit {0}) Denial) × Called G A n (opening t i.parent i.number i.owner i.limit i.amount x) m × (r ≡ done x)
+  ServesOn n (Close t i) r m = (x : Result (Unit {0}) Denial) × Called G A n (closing t i x) m × (r ≡ done x)
+  ServesOn n (Tap t k) r m = (x : Result (Unit {0}) Denial) × Called G A n (tapping t k.number k.source k.sink k.n k.d x) m × (r ≡ done x)
+  ServesOn n (Shut t k) r m = (x : Result (Unit {0}) Denial) × Called G A n (shutting t k x) m × (r ≡ done x)
   ServesOn n (Grant t i q) r m = Grants n t i q r m
   ServesOn n (Settle t s u) r m = Settles n t s u r m
   ServesOn n (Tick h) r m = Ticks n h r m
-  ServesOn n Audit r m = (t : Totals) × Extends G n (audited t) n × Lawful G n t × (r ≡ Ok (Audited t)) × (m ≡ n)
+  ServesOn n Audit r m = (t : Totals) × Called G A n (audited t) n × Lawful G n t × (r ≡ Ok (Audited t)) × (m ≡ n)
 
-abbrev pub ServesIn : {S : Type 0} → Ghosts S → (Node S → Simulator) → Node S → Frame → Result Answer FrameFault → Simulator → Type 0
-ServesIn {S} G put n f r s' = (m : Node S) × (s' ≡ put m) × ServesOn G n f r m
+abbrev pub ServesIn : {S : Type 0} → Ghosts S → (Change → S → S → Type 0) → (Node S → Simulator) → Node S → Frame → Result Answer FrameFault → Simulator → Type 0
+ServesIn {S} G A put n f r s' = (m : Node S) × (s' ≡ put m) × ServesOn G A n f r m
 
 abbrev pub Serves : Simulator → Frame → Result Answer FrameFault → Simulator → Type 0
 Serves Empty f r s' = (made : Result Simulator FrameFault) × Built f made × Stands made r s'
-Serves (Single n) f r s' = ServesIn capacitor_store Single n f r s'
-Serves (Layered n) f r s' = ServesIn layered_store Layered n f r s'
-Serves (Cells n) f r s' = ServesIn bank_store Cells n f r s'
+Serves (Single n) f r s' = ServesIn capacitor_store (exactly capacitor_after) Single n f r s'
+Serves (Layered n) f r s' = ServesIn layered_store layered_told Layered n f r s'
+Serves (Cells n) f r s' = ServesIn bank_store (exactly bank_after) Cells n f r s'
 
 -- a line: its digits, then its frame, then what is served
 

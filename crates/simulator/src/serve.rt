@@ -14,7 +14,7 @@ fn grant<S: Store>(
     reserve: u8,
     amount: u32,
 ) -> Result<Answer, FrameFault>
-    ensures calls { Grants (S.Store) node.old task reserve amount result node.new }
+    ensures calls { Grants (S.Store.own) (S.after) node.old task reserve amount result node.new }
     ensures same { OnErr result (node.new ≡ node.old) }
 {
     let slip = node.grant(task, reserve, amount)?;
@@ -31,8 +31,8 @@ fn settle<S: Store>(
     serial: u32,
     used: u32,
 ) -> Result<Answer, FrameFault>
-    ensures calls { Settles (S.Store) node.old task serial used result node.new }
-    ensures same { SoundNode (S.Store) node.old → OnErr result (node.new ≡ node.old) }
+    ensures calls { Settles (S.Store.own) (S.after) node.old task serial used result node.new }
+    ensures same { SoundNode (S.Store.own) node.old → OnErr result (node.new ≡ node.old) }
 {
     let slip = node.recall(task, serial)?;
     match node.settle(slip, used) {
@@ -46,7 +46,7 @@ fn settle<S: Store>(
 
 // A tick, whose answer tells nothing of the report. The report is a variable of this function, so no other frame clears one.
 fn tick<S: Store>(node: &mut Node<S>, harvest: u32) -> Result<Answer, FrameFault>
-    ensures calls { Ticks (S.Store) node.old harvest result node.new }
+    ensures calls { Ticks (S.Store.own) (S.after) node.old harvest result node.new }
     ensures same { OnErr result (node.new ≡ node.old) }
 {
     let mut report = [0; TAPS];
@@ -55,8 +55,8 @@ fn tick<S: Store>(node: &mut Node<S>, harvest: u32) -> Result<Answer, FrameFault
 }
 
 pub(crate) fn serve<S: Store>(node: &mut Node<S>, frame: &Frame) -> Result<Answer, FrameFault>
-    ensures serves { ServesOn (S.Store) node.old frame.now result node.new }
-    ensures same { SoundNode (S.Store) node.old → OnErr result (node.new ≡ node.old) }
+    ensures serves { ServesOn (S.Store.own) (S.after) node.old frame.now result node.new }
+    ensures same { SoundNode (S.Store.own) node.old → OnErr result (node.new ≡ node.old) }
 {
     match frame {
         Frame::Open { task, reserve } => {

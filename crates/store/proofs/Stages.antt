@@ -1,12 +1,17 @@
 -- Laws of a stage on top of others, for the layers.
 use Rattle.std.proofs.Common.{◌≡◌, ℕ, ◌+◌, ◌-◌, ◌<◌, ◌≤◌, min, cond, T, ltb, List, [], ◌∷◌, ◌++◌, length, IfErr, Ok, Err, Result, sym, refl, ap, ◌∙◌, arith, length-append, le-ltb, lt-ltb}
 use Rattle.store.specs.declared.fault.Fault.{Fault}
-use Rattle.store.specs.Meaning.{Stage, Meaning, Sound, Lettered, Falling, letter, top, shown, height_of, lower, lowered, with_stage, fault_from, kinds, SameMake, Charged, after_draw, Drawn, Drained, Ticked}
+use Rattle.store.specs.Meaning.{Stage, Meaning, Sound, Lettered, Falling, letter, top, top_kind, shown, height_of, lower, lowered, with_stage, fault_from, kinds, SameMake, Charged, after_draw, Drawn, Drained, Ticked}
 
 pub top_more : (ss : List Stage) (s : Stage) → top (ss ++ s ∷ []) ≡ s.available
 top_more [] s = refl
 top_more (x ∷ []) s = refl
 top_more (x ∷ y ∷ ss) s = top_more (y ∷ ss) s
+
+pub top_kind_more : (ss : List Stage) (s : Stage) → top_kind (ss ++ s ∷ []) ≡ s.kind
+top_kind_more [] s = refl
+top_kind_more (x ∷ []) s = refl
+top_kind_more (x ∷ y ∷ ss) s = top_kind_more (y ∷ ss) s
 
 pub kinds_more : (ss : List Stage) (s : Stage) → kinds (ss ++ s ∷ []) ≡ kinds ss ++ s.kind ∷ []
 kinds_more [] s = refl

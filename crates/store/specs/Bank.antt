@@ -71,7 +71,6 @@ bank_store = record {
   capacity = λ b. (bank_means b).capacity;
   stages = λ b. (bank_means b).stages;
   coming_loss = λ b. 0;
-  after = bank_after;
   sound = BankSound;
   KIND = 70;
 }

@@ -45,7 +45,6 @@ capacitor_store = record {
   capacity = λ c. (capacitor_means c).capacity;
   stages = λ c. (capacitor_means c).stages;
   coming_loss = λ c. 0;
-  after = capacitor_after;
   sound = CapacitorSound;
   KIND = 67;
 }

@@ -1,11 +1,13 @@
 // A bank of 1 to 8 cells: filled from cell 0 up, emptied from the last cell down.
-ghost use Rattle.std.specs.Prelude.{◌≡◌, IfOk};
+ghost use Rattle.std.specs.Prelude.{◌≡◌, IfOk, refl};
 ghost use Rattle.store.specs.Bank.{new_bank, bank_means, BankSound, bank_after, bank_store};
+ghost use Rattle.store.specs.Meaning.{exactly};
 ghost use Rattle.store.specs.Laws.{bank_laws};
 
 use crate::cell::Cell;
 use crate::fault::Fault;
 use crate::store::Store;
+use crate::told::Told;
 use arrayvec::ArrayVec;
 use rates::{G, OutOfRange};
 use std::fmt;
@@ -45,6 +47,10 @@ impl Bank {
     }
 }
 
+impl Told for Bank {
+    ghost after = { exactly bank_after };
+}
+
 impl Store for Bank {
     ghost held = { λ b. (bank_means b).held };
 
@@ -54,8 +60,6 @@ impl Store for Bank {
 
     ghost coming_loss = { bank_store.coming_loss };
 
-    ghost after = { bank_after };
-
     ghost sound = { BankSound };
 
     const KIND: u8 = b'F';
@@ -63,6 +67,8 @@ impl Store for Bank {
     ghost KIND = { bank_store.KIND };
 
     ghost means = { bank_laws };
+
+    ghost on_top = { λ _ s. refl };
 
     fn held(&self) -> u32 {
         self.cells

@@ -1,11 +1,13 @@
 // A capacitor: one stage, all that it holds is available, and a tick loses nothing.
-ghost use Rattle.std.specs.Prelude.{◌≡◌, IfOk};
+ghost use Rattle.std.specs.Prelude.{◌≡◌, IfOk, refl};
 ghost use Rattle.store.specs.Capacitor.{new_capacitor, capacitor_means, CapacitorSound, capacitor_after, capacitor_store};
+ghost use Rattle.store.specs.Meaning.{exactly};
 ghost use Rattle.store.specs.Laws.{capacitor_laws};
 
 use crate::cell::Cell;
 use crate::fault::Fault;
 use crate::store::Store;
+use crate::told::Told;
 use rates::{G, OutOfRange};
 
 #[derive(Drop)]
@@ -28,6 +30,10 @@ impl Capacitor {
     }
 }
 
+impl Told for Capacitor {
+    ghost after = { exactly capacitor_after };
+}
+
 impl Store for Capacitor {
     ghost held = { λ c. (capacitor_means c).held };
 
@@ -37,8 +43,6 @@ impl Store for Capacitor {
 
     ghost coming_loss = { capacitor_store.coming_loss };
 
-    ghost after = { capacitor_after };
-
     ghost sound = { CapacitorSound };
 
     const KIND: u8 = b'C';
@@ -46,6 +50,8 @@ impl Store for Capacitor {
     ghost KIND = { capacitor_store.KIND };
 
     ghost means = { capacitor_laws };
+
+    ghost on_top = { λ _ s. refl };
 
     fn held(&self) -> u32 {
         self.cell.held()

@@ -1,11 +1,12 @@
-// A store of energy, by what it holds, what it can hold, and its stages from the bottom up.
+// A store of energy, by what it holds, what it can hold, its stages from the bottom up, and what its next tick loses.
 ghost use Rattle.std.specs.Prelude.{◌≡◌, ℕ, List, OnErr, OnOk};
-ghost use Rattle.store.specs.Meaning.{Stage, Change, charge, draw, drain, tick, meaning, Sound, Charged, Drawn, Drained, Ticked, top, height_of};
+ghost use Rattle.store.specs.Meaning.{Stage, charge, draw, drain, tick, meaning, Sound, Charged, Drawn, Drained, Ticked, top, top_kind, height_of};
 
 use crate::fault::Fault;
+use crate::told::Told;
 
 // No method has a default body: it would be proved once, for ghost members that it does not know.
-pub trait Store {
+pub trait Store: Told {
     ghost held: { Self → ℕ };
 
     ghost capacity: { Self → ℕ };
@@ -14,9 +15,6 @@ pub trait Store {
 
     // What the next tick will lose.
     ghost coming_loss: { Self → ℕ };
-
-    // The value after each change; after a draw, where it is accepted.
-    ghost after: { Change → Self → Self };
 
     // The value is well made; every call keeps it so. It is no invariant: a layer over any store knows only what that
     // store promises.
@@ -45,27 +43,30 @@ pub trait Store {
     fn charge(&mut self, q: u32) -> u32
         ensures sound { sound self.old → sound self.new }
         ensures charged { sound self.old → Charged q (meaning held capacity stages self.old) result (meaning held capacity stages self.new) }
-        ensures after { sound self.old → self.new ≡ after (charge q) self.old };
+        ensures after { sound self.old → Self.after (charge q) self.old self.new };
 
     // Gives out just q, or nothing.
     fn draw(&mut self, q: u32) -> Result<(), Fault>
         ensures sound { sound self.old → sound self.new }
         ensures drawn { sound self.old → Drawn q (meaning held capacity stages self.old) result (meaning held capacity stages self.new) }
         ensures same { OnErr result (self.new ≡ self.old) }
-        ensures after { sound self.old → OnOk result (self.new ≡ after (draw q) self.old) };
+        ensures after { sound self.old → OnOk result (Self.after (draw q) self.old self.new) };
 
     // Lets go of up to q, whatever is available, and answers how much.
     fn drain(&mut self, q: u32) -> u32
         ensures sound { sound self.old → sound self.new }
         ensures drained { sound self.old → Drained q (meaning held capacity stages self.old) result (meaning held capacity stages self.new) }
-        ensures after { sound self.old → self.new ≡ after (drain q) self.old };
+        ensures after { sound self.old → Self.after (drain q) self.old self.new };
 
     // One tick passes; answers what it lost.
     fn tick(&mut self) -> u32
         ensures sound { sound self.old → sound self.new }
         ensures ticked { sound self.old → Ticked (meaning held capacity stages self.old) result (meaning held capacity stages self.new) }
         ensures loss { sound self.old → result ≡ coming_loss self.old }
-        ensures after { sound self.old → self.new ≡ after tick self.old };
+        ensures after { sound self.old → Self.after tick self.old self.new };
 
     ghost means: { (s : Self) → sound s → Sound (meaning held capacity stages s) };
+
+    // The letter is that of the stage on top.
+    ghost on_top: { (s : Self) → sound s → top_kind (stages s) ≡ KIND };
 }

@@ -66,8 +66,8 @@ impl fmt::Display for Came {
 }
 
 fn answer<S: Store>(store: &mut S, call: Call) -> Came
-    ensures sound { S.Store.sound store.old → S.Store.sound store.new }
-    ensures asked { S.Store.sound store.old → Asked (S.Store) store.old call result store.new }
+    ensures sound { S.sound store.old → S.sound store.new }
+    ensures asked { S.sound store.old → Asked (S.Store.own) store.old call result store.new }
 {
     match call {
         Call::Held => Came::Number(store.held()),

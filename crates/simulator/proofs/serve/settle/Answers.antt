@@ -1,6 +1,6 @@
 use Rattle.std.proofs.Common.{true, Ok, Err, refl, rules, sym, ap, ◌∙◌, subst}
 use Rattle.node.specs.Calls.{parked}
-use Rattle.node.specs.Node.{store_means, IsOut, Extends, Marked}
+use Rattle.node.specs.Node.{store_means, IsOut, Called, Marked}
 use Rattle.node.proofs.Parking.{out_parks, there_and_back}
 use Rattle.simulator.proofs.serve.settle.Goals as goal
 
@@ -22,13 +22,13 @@ returns-in-Ok-park g c =
       calls = (
         Ok c.in_ok-slip.slip,
         c.recall.new.self,
-        recalls.step,
+        record { step = recalls.step; stored = recalls.stored },
         (
           recalls.slip.0,
           Err (c.in-Err.denial, c.in-Err.slip),
           c.settle.new.self,
-          c.in-Err.ensures.step,
-          (subst (λ x. Extends g.S.Store c.settle.new.self (parked x.serial x.amount) c.park.new.self) same.0 parks.step, ap Err c.from.ensures),
+          record { step = c.in-Err.ensures.step; stored = c.in-Err.ensures.stored },
+          (subst (λ x. Called g.S.Store g.S.Told.after c.settle.new.self (parked x.serial x.amount) c.park.new.self) same.0 (record { step = parks.step; stored = parks.stored }), ap Err c.from.ensures),
         ),
       );
       same = λ s. there_and_back c.args.node.now c.recall.new.self c.park.new.self _ c.args.task c.args.serial (store_means g.S.Store c.args.node.now) s.whole.well
@@ -38,4 +38,14 @@ returns-in-Ok-park g c =
 
 pub returns-in_err-slip-clause-calls : goal.returns-in_err-slip-clause-calls
 returns-in_err-slip-clause-calls g c =
-    (Err c.in_err-slip.field-0.0, c.recall.new.self, c.in_err-slip.ensures.step, (refl, search rules))
+    (Err c.in_err-slip.field-0.0, c.recall.new.self, record { step = c.in_err-slip.ensures.step; stored = c.in_err-slip.ensures.stored }, (refl, search rules))
+
+pub returns-in-Ok-clause-calls : goal.returns-in-Ok-clause-calls
+returns-in-Ok-clause-calls g c =
+    let recalls = c.in_ok-slip.ensures in
+    let settles = c.in-Ok.ensures in (
+      Ok c.in_ok-slip.slip,
+      c.recall.new.self,
+      record { step = recalls.step; stored = recalls.stored },
+      (recalls.slip.0, Ok c.in-Ok.lost, c.settle.new.self, record { step = settles.step; stored = settles.stored }, (refl, refl)),
+    )

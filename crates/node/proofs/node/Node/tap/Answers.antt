@@ -20,4 +20,3 @@ returns-clause-step g c s = goes g.S.Store g.met.S.Store.means c.args.self.now _
       standing = ap (with_taps (standing_of c.args.self.now)) c.open.ensures.after;
       books = refl;
     })
-    refl
