@@ -1,11 +1,4 @@
 -- Batteries. Assumes nothing.
---     new_battery c        what is made of the capacity c: a full battery, where c is at most G
---     battery_means b      its meaning: one stage, of kind B, with all that is held
---     BatterySound b       no more is held than the capacity, which is at most G
---     filled q b           the battery b with q more, as far as it has room
---     emptied q b          the battery b with q less, as far as it holds that
---     battery_after x b    the battery b after the change x: a tick loses 1 quantum
---     battery_store        its members as a store
 use Rattle.std.specs.Prelude.{ℕ, ◌≤◌, min, cond, [], ◌∷◌, Ok, Err, Result, nat_le}
 use Rattle.rates.specs.Amount.{bound}
 use Rattle.rates.specs.declared.amount.OutOfRange.{OutOfRange}
@@ -14,9 +7,11 @@ use Rattle.store.specs.Meaning.{Meaning, Change, charge, draw, drain, tick}
 use Rattle.store.specs.Cell.{cell, CellSound, filled as filled_cell, emptied as emptied_cell}
 use Rattle.guide.specs.declared.battery.Battery.{Battery}
 
+-- a full battery, where the capacity is at most G
 abbrev pub new_battery : ℕ → Result Battery OutOfRange
 new_battery c = cond (nat_le c bound) (Ok (record { cell = cell c c })) (Err (record {}))
 
+-- one stage, of kind B, with all that is held
 abbrev pub battery_means : Battery → Meaning
 battery_means b = record {
   held = b.cell.held;
@@ -24,21 +19,26 @@ battery_means b = record {
   stages = record { kind = 66; available = b.cell.held } ∷ [];
 }
 
+-- no more is held than the capacity, which is at most G
 abbrev pub BatterySound : Battery → Type 0
 BatterySound b = CellSound b.cell × (b.cell.capacity ≤ bound)
 
+-- with q more, as far as it has room
 abbrev pub filled : ℕ → Battery → Battery
 filled q b = record { cell = filled_cell q b.cell }
 
+-- with q less, as far as it holds that
 abbrev pub emptied : ℕ → Battery → Battery
 emptied q b = record { cell = emptied_cell q b.cell }
 
+-- the value after a change: a tick loses 1 quantum
 abbrev pub battery_after : Change → Battery → Battery
 battery_after (charge q) b = filled q b
 battery_after (draw q) b = emptied q b
 battery_after (drain q) b = emptied q b
 battery_after tick b = emptied 1 b
 
+-- its members as a store
 abbrev pub battery_store : Ghosts Battery
 battery_store = record {
   held = λ b. (battery_means b).held;

@@ -1,4 +1,4 @@
-// A battery: it comes full, all that it holds is available, and a tick loses 1 quantum of it.
+// A store of one's own: a battery.
 ghost use Rattle.std.specs.Prelude.{◌≡◌, IfOk, refl};
 ghost use Rattle.store.specs.Meaning.{exactly};
 ghost use Rattle.guide.specs.Battery.{new_battery, battery_means, battery_after, BatterySound, battery_store};
@@ -10,13 +10,14 @@ use store::{Cell, Fault, Store, Told};
 // What a tick loses, while anything is held.
 const SELF_DISCHARGE: u32 = 1;
 
+/// A battery: it comes full, all that it holds is available, and a tick loses 1 quantum of it. Its letter is B.
 #[derive(Drop)]
 pub struct Battery {
     cell: Cell,
 }
 
 impl Battery {
-    // A full battery.
+    /// A full battery. A capacity above G is refused.
     pub fn new(capacity: u32) -> Result<Battery, OutOfRange>
         ensures result { result ≡ new_battery capacity }
         ensures sound { IfOk result BatterySound }
@@ -30,12 +31,12 @@ impl Battery {
     }
 }
 
-// Its next value is a function of what it is: it is told exactly.
+// Its next value is a function of what it is, and is told exactly.
 impl Told for Battery {
     ghost after = { exactly battery_after };
 }
 
-// Written out in full, as an example of a store of one's own: each call is its cell's.
+// Written out in full, as an example: each call is its cell's.
 impl Store for Battery {
     ghost held = { λ b. (battery_means b).held };
 

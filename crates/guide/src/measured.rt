@@ -1,4 +1,4 @@
-// A store whose losses are measured: what a tick loses is what a sensor counted, and nothing foretells the next reading.
+// A store of which nobody can tell what it will hold: its losses are measured.
 ghost use Rattle.std.specs.Prelude.{◌≡◌, IfOk, refl};
 ghost use Rattle.store.specs.Meaning.{nothing};
 ghost use Rattle.guide.specs.Measured.{Made, measured_means, MeasuredSound, measured_store};
@@ -7,22 +7,25 @@ ghost use Rattle.guide.specs.Laws.{measured_laws};
 use rates::{G, OutOfRange};
 use store::{Cell, Fault, Store, Told};
 
-// A sensor that counts what leaks away. It promises nothing: a reading is what it is.
+/// A sensor that counts what leaks away.
+// It promises nothing: no reading follows from those before it.
 pub trait Sensor {
-    // The quanta that have leaked since the reading before.
+    /// How many quanta have leaked since the last reading.
     fn read(&mut self) -> u32;
 }
 
+/// A store whose tick loses what its sensor read last, as far as that is held; then the sensor is read anew. All that it
+/// holds is available. Its letter is M.
 #[derive(Drop)]
 pub struct Measured<M> {
     cell: Cell,
     sensor: M,
-    // The last reading: the next tick takes it off.
+    // The last reading, which the next tick takes off.
     reading: u32,
 }
 
 impl<M: Sensor> Measured<M> {
-    // A full store, after a first reading. A capacity above G is refused, and the sensor comes back.
+    /// A full store, for which the sensor is read a first time. A capacity above G is refused: the sensor comes back unread.
     pub fn new(capacity: u32, sensor: M) -> Result<Measured<M>, (OutOfRange, M)>
         ensures made { Made capacity sensor result }
         ensures sound { IfOk result MeasuredSound }

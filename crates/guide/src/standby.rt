@@ -1,17 +1,18 @@
-// A standby current: at each tick a fixed amount of what the store below holds is lost.
+// A layer of one's own: a standby current.
 ghost use Rattle.std.specs.Prelude.{◌≡◌, refl};
 ghost use Rattle.layers.specs.Laws.{all_under};
 ghost use Rattle.guide.specs.Standby.{standby_layer};
 
 use layers::Layer;
 
+/// A standby current: at each tick a fixed amount of what the store below holds is lost. Its letter is Y.
 #[derive(Drop)]
 pub struct Standby {
     amount: u32,
 }
 
 impl Standby {
-    // A standby current of any amount.
+    /// A standby current of any number of quanta.
     pub fn new(amount: u32) -> Standby
         ensures result { result ≡ record { amount = amount } }
     {

@@ -1,17 +1,18 @@
-// A floor: the lowest part of what the store below has stays out of a draw's reach.
+// The floor.
 ghost use Rattle.std.specs.Prelude.{◌≡◌};
 ghost use Rattle.layers.specs.Floor.{floor_layer};
 ghost use Rattle.layers.specs.Laws.{less_under, less_lowers};
 
 use crate::layer::Layer;
 
+/// A floor: the lowest part of what is available below stays out of a draw's reach. Its letter is R; nothing leaks.
 #[derive(Drop)]
 pub struct Floor {
     amount: u32,
 }
 
 impl Floor {
-    // A floor of any amount.
+    /// A floor of any number of quanta.
     pub fn new(amount: u32) -> Floor
         ensures result { result ≡ record { amount = amount } }
     {

@@ -1,9 +1,11 @@
-// A layer, by the stage that it adds on top of a store and by what it lets leak from it.
+// The trait of all layers.
 ghost use Rattle.std.specs.Prelude.{◌≡◌, ℕ, ◌-◌, ◌≤◌, T};
 ghost use Rattle.store.specs.Meaning.{letter};
 
 use crate::layered::Layered;
 
+/// A layer over a store, told by the stage that it adds on top, and by what a tick lets leak of what the store below holds.
+/// `leaves` and `leak` are questions; `tick` alone changes it.
 // No method has a default body: it would be proved once, for ghost members that it does not know.
 pub trait Layer {
     // How much it leaves available where so much is available below.
@@ -18,24 +20,25 @@ pub trait Layer {
     // The value is well made; every call keeps it so.
     ghost sound: { Self → Type 0 } = { λ l. Unit {0} };
 
-    // The letter of this kind of layer.
+    /// The letter of this kind of layer, and so of the stage that it adds.
     const KIND: u8;
 
     ghost KIND: { ℕ };
 
+    /// How much of what is available below it leaves available.
     fn leaves(&self, below: u32) -> u32
         ensures result { sound self.now → result ≡ leaves self.now below };
 
-    // How much a tick will let leak from a store that holds so much.
+    /// How much a tick lets leak from a store that then holds so much.
     fn leak(&self, held: u32) -> u32
         ensures result { sound self.now → result ≡ leak self.now held };
 
-    // A tick passes over a store that holds so much.
+    /// A tick passes over a store that then holds so much.
     fn tick(&mut self, held: u32)
         ensures sound { sound self.old → sound self.new }
         ensures after { sound self.old → self.new ≡ after self.old held };
 
-    // This layer over the store.
+    /// This layer over the store.
     final fn over<S>(self, below: S) -> Layered<S, Self>
     where
         Self: Sized,

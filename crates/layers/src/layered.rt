@@ -1,11 +1,12 @@
-// A layer over a store: a store again, with the layer's stage on top. A call that the layer has no part in goes to the
-// store below as it is.
+// What a layer makes of the store below it.
 ghost use Rattle.layers.specs.Layered.{layered_means, layered_loss, layered_after, LayeredSound};
 ghost use Rattle.store.proofs.Stages.{sound_more, top_kind_more};
 
 use crate::layer::Layer;
 use store::{Fault, Store, Told};
 
+/// A layer over a store: a store again, with the layer's stage on top. A call that the layer has no part in goes to the
+/// store below as it is, and so does that store's fault come up.
 #[derive(Drop)]
 pub struct Layered<S, L> {
     pub(crate) below: S,

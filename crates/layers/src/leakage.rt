@@ -1,4 +1,4 @@
-// Leakage: at each tick a part of what the store below holds is lost.
+// Leakage.
 ghost use Rattle.std.specs.Prelude.{◌≡◌, ◌+◌, ◌*◌, IfOk, refl};
 ghost use Rattle.layers.specs.Leakage.{new_leakage, LeakSound, leakage_layer};
 ghost use Rattle.layers.specs.Laws.{all_under};
@@ -6,6 +6,8 @@ ghost use Rattle.layers.specs.Laws.{all_under};
 use crate::layer::Layer;
 use rates::{OutOfRange, PARTS};
 
+/// Leakage: at each tick a part of what the store below holds is lost, available or not. Its letter is L. What is less than
+/// a quantum is kept, and counts at the next tick.
 #[derive(Drop)]
 pub struct Leakage {
     part: u16,
@@ -14,7 +16,7 @@ pub struct Leakage {
 }
 
 impl Leakage {
-    // A leakage that has kept nothing yet.
+    /// A leakage of so many ten-thousandths, which has kept nothing yet. A part above 10,000 is refused.
     pub fn new(part: u16) -> Result<Leakage, OutOfRange>
         ensures result { result ≡ new_leakage part }
         ensures sound { IfOk result LeakSound }
@@ -25,7 +27,7 @@ impl Leakage {
         Ok(Leakage { part, remainder: 0 })
     }
 
-    // What leaks of so much, and what was left over, in ten-thousandths of a quantum.
+    // What leaks of so much with what was left over, in ten-thousandths of a quantum.
     fn due(&self, held: u32) -> u64
         ensures result { result ≡ held * self.now.part + self.now.remainder }
     {

@@ -37,7 +37,7 @@ kept_quiet t owed ticks got Ever kept = record {
   from = λ e. omega (arith, kept.from e.1);
 }
 
--- a tick at which the tap moved the least of its due, the source's level and the sink's headroom
+-- a tick at which the tap moved as much of its due as the source had and the sink had room for
 kept_tick : (t : Tap) (owed ticks got figure low room : ℕ) (Now Ever : Type 0) → figure ≡ min (tap_due t) (min low room)
     → (Now → (tap_due t ≤ low) × (tap_due t ≤ room)) → (tap_due t ≤ low → tap_due t ≤ room → Now)
     → Kept t owed ticks got Ever → Kept (step t) (tap_due t + owed) (1 + ticks) (figure + got) (Now × Ever)

@@ -1,5 +1,6 @@
--- What holds after every run of calls, whatever the tasks asked: the law. Levels, dues and headroom are those that the
--- rules work out from what the store held at birth, the calls and their answers. Assumes nothing.
+-- The law: what holds of every node that was made and then called, whoever asked, and for what. It reads none of the
+-- node's tables: from what was held when the node was made, and from the events since, it works out where the node stands,
+-- and so each level, due and headroom. Assumes nothing.
 --     standing_after birth h           where a node stands that was born over so much and then answered these calls so
 --     Tick, tick_of e                  an accepted tick, and the one that the event e is, if it is one
 --     opens k e                        the event e opens tap k
@@ -9,11 +10,11 @@
 --     delivered, dues, ticks_since     what tap k moved, what it was due, and how many ticks there were, since it last opened
 --     Enough k s t                     at its turn, tap k's source had the due and its sink had room for it
 --     Delivery birth h k tap           the promise to an open tap
---     declared_minimum ts              the sum of n / d, each rounded up, over the open taps from the root
+--     declared_minimum ts              what the open taps from the root are due at one tick at most, added up
 --     RootSuffices s t                 a tick that took in the declared minimum found the root able to feed each of these taps
 --     AtEveryTick birth P h            P held at every accepted tick
 --     sum_of f h                       the sum of f over the whole list of calls
---     totals_of birth h held           the seven totals, from what was held at birth, the calls and their answers
+--     totals_of birth h held           the seven totals, each by a count of its own over the events
 --     Law birth h held t               the whole law, of the totals t that an audit answers over a store that holds held
 use Rattle.std.specs.Prelude.{◌≡◌, ℕ, ◌+◌, ◌-◌, ◌*◌, ◌/◌, ◌≤◌, Bool, false, cond, ◌↔◌, List, [], ◌∷◌, take, Some, None, Option, ◌==◌, slice_index, slice_index_or}
 use Rattle.tables.specs.declared.taps.Tap.{Tap}
@@ -172,7 +173,7 @@ abbrev pub outstanding : List Grant → ℕ
 outstanding [] = 0
 outstanding (g ∷ gs) = g.amount + outstanding gs
 
--- the seven totals, each from what the store held at birth, the calls and their answers
+-- the seven totals, each by a count of its own over the events; what was received begins with what was held at first
 abbrev pub totals_of : ℕ → History → ℕ → Totals
 totals_of birth h held = record {
   received = birth + sum_of (of_tick (λ t. t.harvest)) h;

@@ -59,7 +59,7 @@ module _ {S : Type 0} (G : Ghosts S) where
   abbrev pub Extends : Node S → Event → Node S → Type 0
   Extends n e m = SoundNode n → SoundNode m × Step (state n) e (state m)
 
-  -- only the root is open, whose level is what the store holds
+  -- the root alone is open, with all that is held
   pub record Newborn (over : S) (n : Node S) : Type 0 where
     pub sound : SoundNode n
     pub store : n.store ≡ over

@@ -105,16 +105,16 @@ with_taps s ts = record { reserves = s.reserves; taps = ts; grants = s.grants; s
 abbrev pub with_grants : Standing → List Grant → Standing
 with_grants s gs = record { reserves = s.reserves; taps = s.taps; grants = gs; serials = s.serials; ticks = s.ticks }
 
--- the loss is charged, and the intake goes to the root
+-- the levels as the loss left them, and the root with the intake
 abbrev pub before_taps : Standing → ℕ → ℕ → ReserveRows
 before_taps s loss intake = give (charge_loss loss s.reserves) 0 intake
 
 abbrev pub after : Standing → Event → Standing
 after s (refused call why) = s
--- the amount goes from the parent to the new reserve
+-- the new reserve begins with what its parent gives up
 after s (opened task parent number owner limit amount) =
     with_reserves s (slice_set (lower s.reserves parent amount) number (Some (record { owner = owner; parent = parent; limit = limit; level = amount })))
--- the level goes to the parent up to its headroom, and what is over to the root
+-- the parent takes the level back, and the root what the parent has no room for
 after s (closed task number) =
     with_reserves s (return_to (slice_set s.reserves number None) (parent_of s.reserves number) (level_at s.reserves number))
 -- the first remainder is 0
@@ -129,7 +129,7 @@ after s (granted task reserve amount serial) = record {
   serials = serial;
   ticks = s.ticks;
 }
--- what the store took of the unused quanta goes to the reserve up to its headroom, and what is over to the root
+-- of the unused quanta those that the store took come back: to the reserve while it has room, and then to the root
 after s (settled serial amount used lost) = record {
   reserves = return_to s.reserves (reserve_of serial s.grants) (amount - used - lost);
   taps = s.taps;

@@ -1,4 +1,4 @@
-// Reserves, taps and grants over a store of harvested energy.
+// A node: it divides what a store holds among reserves, feeds them by taps, and grants from them.
 #![tactic(auto)]
 
 mod denial;

@@ -1,4 +1,4 @@
-// A node: reserves, taps and grants over a store of harvested energy.
+// A node over a store of harvested energy: its reserves, its taps, the grants that are open, and what it has counted.
 ghost use Rattle.std.specs.Prelude.{◌≡◌, ◌-◌, ◌≤◌, true, false, length, take, drop, IfOk, IfErr, OnErr, OnOk};
 ghost use Rattle.store.specs.Meaning.{Meaning, draw};
 ghost use Rattle.tables.specs.Taps.{AllFit, Turns};
@@ -60,7 +60,7 @@ fn run_taps(taps: &mut Taps, reserves: &mut Reserves, report: &mut [u32])
 
 // That a refused call changes nothing each contract says: it is said of that call's answer, and no type has it.
 impl<S: Store> Node<S> {
-    // A node over any store: only the root is open, and its level is what the store holds.
+    // A node over any store: the root alone is open, and has all that is held.
     pub fn new(store: S) -> Node<S>
         ensures new { S.sound store → Newborn (S.Store.own) store result }
         ensures stored { result.store ≡ store }
@@ -76,7 +76,7 @@ impl<S: Store> Node<S> {
         }
     }
 
-    // Opens a reserve under a parent that the task owns; the amount goes from the parent to it.
+    // Opens a reserve under a parent that the task owns, which gives it its first level.
     pub fn open(&mut self, task: u8, reserve: NewReserve) -> Result<(), Denial>
         ensures step { Extends (S.Store.own) self.old (opening task reserve.parent reserve.number reserve.owner reserve.limit reserve.amount result) self.new }
         ensures stored { Stored (S.Store.own) (S.after) self.old.store (opening task reserve.parent reserve.number reserve.owner reserve.limit reserve.amount result) self.new.store }
@@ -96,7 +96,7 @@ impl<S: Store> Node<S> {
         Ok(())
     }
 
-    // Closes a reserve; its level goes to its parent up to the headroom, and what is over to the root.
+    // Closes a reserve: its parent takes the level back, and the root what the parent has no room for.
     pub fn close(&mut self, task: u8, number: u8) -> Result<(), Denial>
         ensures step { Extends (S.Store.own) self.old (closing task number result) self.new }
         ensures stored { Stored (S.Store.own) (S.after) self.old.store (closing task number result) self.new.store }
@@ -138,7 +138,7 @@ impl<S: Store> Node<S> {
         Ok(())
     }
 
-    // Draws the amount from the store, and only then lowers the level: a slip for it.
+    // A slip for the amount. The store is asked first, and the level lowered only where it gives.
     pub fn grant(&mut self, task: u8, reserve: u8, amount: u32) -> Result<Slip, Denial>
         ensures step { Extends (S.Store.own) self.old (granting task reserve amount result) self.new }
         ensures stored { Stored (S.Store.own) (S.after) self.old.store (granting task reserve amount result) self.new.store }
@@ -153,7 +153,7 @@ impl<S: Store> Node<S> {
         Ok(Slip { serial, amount })
     }
 
-    // The used quanta are spent, and the unused ones charged to the store: what of them is lost.
+    // Ends a grant: what was used is spent, and what was not is charged to the store. Answers what of that found no room.
     pub fn settle(&mut self, slip: Slip, used: u32) -> Result<u32, (Denial, Slip)>
         ensures step { Extends (S.Store.own) self.old (settling slip used result) self.new }
         ensures stored { Stored (S.Store.own) (S.after) self.old.store (settling slip used result) self.new.store }
@@ -192,7 +192,7 @@ impl<S: Store> Node<S> {
         Ok(serial)
     }
 
-    // Turns a parked serial into a slip again, for the task that owns the reserve.
+    // Turns a parked serial into a slip again. The task must own the reserve that the grant is of.
     pub fn recall(&mut self, task: u8, serial: u32) -> Result<Slip, Denial>
         ensures step { Extends (S.Store.own) self.old (recalling task serial result) self.new }
         ensures stored { Stored (S.Store.own) (S.after) self.old.store (recalling task serial result) self.new.store }
@@ -209,8 +209,8 @@ impl<S: Store> Node<S> {
         })
     }
 
-    // The store ticks and its loss is charged; the harvest is taken in; then the taps run. What was lost and taken
-    // in is answered, and what each tap moved is written into the first 96 places of the report.
+    // One tick: the reserves bear what the store loses, the root gets what the store takes in of the harvest, and the taps
+    // have their turns. Answers loss and intake; the first 96 places of the report get what each tap moved.
     pub fn tick(&mut self, harvest: u32, report: &mut [u32]) -> Result<(u32, u32), Denial>
         ensures step { Extends (S.Store.own) self.old (ticking harvest report.new result) self.new }
         ensures stored { Stored (S.Store.own) (S.after) self.old.store (ticking harvest report.new result) self.new.store }

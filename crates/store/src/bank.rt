@@ -1,4 +1,4 @@
-// A bank of 1 to 8 cells: filled from cell 0 up, emptied from the last cell down.
+// The bank of cells.
 ghost use Rattle.std.specs.Prelude.{◌≡◌, IfOk, refl};
 ghost use Rattle.store.specs.Bank.{new_bank, bank_means, BankSound, bank_after, bank_store};
 ghost use Rattle.store.specs.Meaning.{exactly};
@@ -14,13 +14,15 @@ use std::fmt;
 
 const MOST_CELLS: usize = 8;
 
+/// A bank of 1 to 8 cells: one stage of the letter F, filled from cell 0 up and emptied from the last cell down. All that
+/// its cells hold is available, and a tick loses nothing.
 #[derive(Drop)]
 pub struct Bank {
     cells: ArrayVec<Cell, MOST_CELLS>,
 }
 
 impl Bank {
-    // An empty bank of cells with these capacities.
+    /// An empty bank of cells with these capacities. No cell, more than 8, or capacities above G together are refused.
     pub fn new(capacities: &[u32]) -> Result<Bank, OutOfRange>
         ensures result { result ≡ new_bank capacities.now }
         ensures sound { IfOk result BankSound }
@@ -39,7 +41,7 @@ impl Bank {
         Ok(Bank { cells })
     }
 
-    // The cells, cell 0 first.
+    /// The cells, cell 0 first.
     pub fn cells(&self) -> &[Cell]
         ensures result { result.now ≡ self.now.cells.items }
     {

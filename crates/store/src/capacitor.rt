@@ -1,4 +1,4 @@
-// A capacitor: one stage, all that it holds is available, and a tick loses nothing.
+// The capacitor.
 ghost use Rattle.std.specs.Prelude.{◌≡◌, IfOk, refl};
 ghost use Rattle.store.specs.Capacitor.{new_capacitor, capacitor_means, CapacitorSound, capacitor_after, capacitor_store};
 ghost use Rattle.store.specs.Meaning.{exactly};
@@ -10,13 +10,14 @@ use crate::store::Store;
 use crate::told::Told;
 use rates::{G, OutOfRange};
 
+/// A capacitor: one stage of the letter C, all that it holds is available, and a tick loses nothing.
 #[derive(Drop)]
 pub struct Capacitor {
     cell: Cell,
 }
 
 impl Capacitor {
-    // An empty capacitor.
+    /// An empty capacitor. A capacity above G is refused.
     pub fn new(capacity: u32) -> Result<Capacitor, OutOfRange>
         ensures result { result ≡ new_capacitor capacity }
         ensures sound { IfOk result CapacitorSound }

@@ -1,6 +1,6 @@
 -- Reserves, by their rows: reserve i stands at place i, and a place without a row is not open. Assumes nothing.
 --     ReserveRows                  the 32 rows
---     first_reserves held          only the root is open, whose level is what the store holds
+--     first_reserves held          those of a new node: the root alone, with all that is held
 --     owns rs task i               task owns the open reserve i
 --     level_at rs i                the level of reserve i, 0 where it is not open
 --     headroom rs i                its limit less its level
@@ -11,7 +11,7 @@
 --     fill rs i q                  q more at reserve i, up to its headroom
 --     return_to rs i q             q more at reserve i up to its headroom, and the rest at the root
 --     fill_up rs i q               the same with the root filled up to its headroom, which in a sound node is no less
---     charge_loss q rs             a loss, taken from the root first, then from reserves 31 down to 1
+--     charge_loss q rs             a loss of q: the root gives what it has, then reserve 31, and so on down to reserve 1
 --     parent_is i o                the row o is that of a reserve whose parent is i
 --     is_parent rs i               reserve i is the parent of an open reserve
 use Rattle.std.specs.Prelude.{ℕ, zero, suc, ◌+◌, ◌-◌, min, Bool, false, List, [], ◌∷◌, drop, replicate, Some, None, Option, ◌==◌, slice_index_or, slice_set}

@@ -41,7 +41,7 @@ abbrev pub ends_at : ℕ → Option Tap → Bool
 ends_at i None = false
 ends_at i (Some t) = t.source == i || t.sink == i
 
--- the least of its due, the source's level and the sink's headroom
+-- as much of the due as the source has and the sink has room for
 abbrev pub moves_at : ReserveRows → Tap → ℕ
 moves_at rs t = min (tap_due t) (min (level_at rs t.source) (headroom rs t.sink))
 

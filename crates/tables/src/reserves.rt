@@ -110,8 +110,7 @@ impl Table<Reserve, RESERVES> {
         q - taken
     }
 
-    // A loss, taken from the root first, then from the last reserve down to reserve 1. The rules fix this order, and a
-    // loop with an index for it.
+    // Charges a loss: the root gives first, then each reserve from the last down to reserve 1, until nothing is left of it.
     pub fn charge_loss(&mut self, q: u32)
         ensures after { self.new.rows ≡ charge_loss q self.old.rows }
     {
