@@ -1,4 +1,4 @@
-// What a layer makes of the store below it.
+// A store under a layer.
 ghost use Rattle.layers.specs.Layered.{layered_means, layered_loss, layered_after, LayeredSound};
 ghost use Rattle.store.proofs.Stages.{sound_more, top_kind_more};
 

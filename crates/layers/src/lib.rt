@@ -1,4 +1,4 @@
-// Layers over any store: each adds one stage on top.
+// Layers: what each makes of the store below it.
 #![tactic(auto)]
 
 mod floor;

@@ -192,7 +192,7 @@ impl<S: Store> Node<S> {
         Ok(serial)
     }
 
-    // Turns a parked serial into a slip again. The task must own the reserve that the grant is of.
+    // A slip again, of a grant that is parked under this serial, for the owner of the grant's reserve.
     pub fn recall(&mut self, task: u8, serial: u32) -> Result<Slip, Denial>
         ensures step { Extends (S.Store.own) self.old (recalling task serial result) self.new }
         ensures stored { Stored (S.Store.own) (S.after) self.old.store (recalling task serial result) self.new.store }

@@ -3,7 +3,7 @@
 --     first_reserves held          those of a new node: the root alone, with all that is held
 --     owns rs task i               task owns the open reserve i
 --     level_at rs i                the level of reserve i, 0 where it is not open
---     headroom rs i                its limit less its level
+--     headroom rs i                how much more it may have, up to its limit
 --     parent_of rs i               its parent
 --     relevel v o                  the row o with the level v, if it is open
 --     put_level rs i v             the same reserves with the level v at reserve i, if it is open
