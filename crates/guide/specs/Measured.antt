@@ -1,5 +1,5 @@
 -- Stores whose losses are measured. Assumes nothing.
-use Rattle.std.specs.Prelude.{◌≡◌, ℕ, ◌<◌, ◌≤◌, min, [], ◌∷◌, Ok, Err, Result}
+use Rattle.std.specs.Prelude.{ℕ, ◌≤◌, min, cond, [], ◌∷◌, Ok, Err, Result, nat_le}
 use Rattle.rates.specs.Amount.{bound}
 use Rattle.rates.specs.declared.amount.OutOfRange.{OutOfRange}
 use Rattle.store.specs.declared.store.Store.{Ghosts}
@@ -8,10 +8,9 @@ use Rattle.store.specs.Cell.{cell, CellSound}
 use Rattle.guide.specs.declared.measured.Measured.{Measured}
 
 module _ {M : Type 0} where
-  -- what is made of a capacity and a sensor: a full store, or the sensor comes back
-  abbrev pub Made : ℕ → M → Result (Measured M) (OutOfRange × M) → Type 0
-  Made capacity sensor (Ok s) = (capacity ≤ bound) × (s.cell ≡ cell capacity capacity)
-  Made capacity sensor (Err e) = (bound < capacity) × (e.1 ≡ sensor)
+  -- a full store, of which nothing has leaked yet, where the capacity is at most G; otherwise the sensor comes back
+  abbrev pub new_measured : ℕ → M → Result (Measured M) (OutOfRange × M)
+  new_measured capacity sensor = cond (nat_le capacity bound) (Ok (record { cell = cell capacity capacity; sensor = sensor; reading = 0 })) (Err (record {}, sensor))
 
   -- one stage, of kind M, with all that is held
   abbrev pub measured_means : Measured M → Meaning

@@ -1,7 +1,7 @@
 // A store of which nobody can tell what it will hold: its losses are measured.
 ghost use Rattle.std.specs.Prelude.{◌≡◌, IfOk, refl};
 ghost use Rattle.store.specs.Meaning.{nothing};
-ghost use Rattle.guide.specs.Measured.{Made, measured_means, MeasuredSound, measured_store};
+ghost use Rattle.guide.specs.Measured.{new_measured, measured_means, MeasuredSound, measured_store};
 ghost use Rattle.guide.specs.Laws.{measured_laws};
 
 use rates::{G, OutOfRange};
@@ -25,20 +25,18 @@ pub struct Measured<M> {
 }
 
 impl<M: Sensor> Measured<M> {
-    /// A full store, for which the sensor is read a first time. A capacity above G is refused: the sensor comes back unread.
+    /// A full store, of which nothing has leaked yet. A capacity above G is refused: the sensor comes back.
     pub fn new(capacity: u32, sensor: M) -> Result<Measured<M>, (OutOfRange, M)>
-        ensures made { Made capacity sensor result }
+        ensures result { result ≡ new_measured capacity sensor }
         ensures sound { IfOk result MeasuredSound }
     {
         if capacity > G {
             return Err((OutOfRange, sensor));
         }
-        let mut sensor = sensor;
-        let reading = sensor.read();
         Ok(Measured {
             cell: Cell::full(capacity),
             sensor,
-            reading,
+            reading: 0,
         })
     }
 }
