@@ -1,5 +1,5 @@
 -- Where what the store below tells leaves one value after each change, so does what a layer over it tells.
-use Rattle.std.proofs.Common.{◌≡◌, ℕ, ap, ◌∙◌, sym, subst, refl}
+use Rattle.std.proofs.Common.{◌≡◌, ap, ◌∙◌, subst, refl}
 use Rattle.store.specs.declared.store.Store.{Ghosts}
 use Rattle.store.specs.Meaning.{Change, charge, draw, drain, tick, Determined}
 use Rattle.layers.specs.declared.layer.Layer.{Ghosts as LayerGhosts}

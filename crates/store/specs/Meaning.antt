@@ -14,7 +14,7 @@ pub record Meaning : Type 0 where
   pub capacity : ℕ
   pub stages : List Stage
 
--- what is done to a store, where it may become another value
+-- the calls that change a store
 pub data Change : Type 0 where
   charge : (q : ℕ) → Change
   draw : (q : ℕ) → Change
@@ -128,7 +128,7 @@ pub record Drained (q : ℕ) (m : Meaning) (r : ℕ) (n : Meaning) : Type 0 wher
   pub told : r ≡ min q m.held
   pub held : n.held ≡ m.held - r
 
--- a tick loses some of what is held; its answer r is what is gone
+-- a tick loses some of what is held, or nothing; its answer r is what is gone
 pub record Ticked (m : Meaning) (r : ℕ) (n : Meaning) : Type 0 where
   pub make : SameMake m n
   pub within : r ≤ m.held

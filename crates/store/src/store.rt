@@ -6,8 +6,8 @@ use crate::fault::Fault;
 use crate::told::Told;
 
 /// A store of energy in whole quanta, told by what it holds, what it can hold, its stages from the bottom up, and what its
-/// next tick will lose. What is proved of a node rests on that alone. Each promise is of a value that is `sound`, as those
-/// are that a store's own constructor makes, and every call keeps it so.
+/// next tick will lose. The law of a node rests on that alone. What is promised is promised of a value that is `sound`;
+/// a store's constructor makes such values, and every call keeps them so.
 // No method has a default body: it would be proved once, for ghost members that it does not know.
 pub trait Store: Told {
     ghost held: { Self → ℕ };

@@ -1,9 +1,9 @@
 // What a store tells of itself beyond its meaning.
 ghost use Rattle.store.specs.Meaning.{Change};
 
-/// Which values a store may be after each change. Clauses say it beside what the change does to the store's meaning, so
-/// that it is known which value a call leaves; no law rests on it. A store that can tell tells `exactly` a function; one
-/// that can't, as where a sensor is read, tells `nothing`.
+/// Which values a store may be after each change, beside what the change does to its meaning. A store whose next value is a
+/// function of what it is tells `exactly` that function; one that can't know it, as where a sensor is read, tells `nothing`.
+/// The law of a node does not rest on it.
 pub trait Told {
     // By the change, the value before and the value after; of a draw, where it is accepted.
     ghost after: { Change → Self → Self → Type 0 };
