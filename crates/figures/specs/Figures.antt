@@ -65,7 +65,7 @@ cells_of a b c = with_cells (cell 5 a ∷ cell 3 b ∷ cell 2 c ∷ [])
 abbrev pub child : ℕ → Reserve
 child level = record { owner = 7; parent = 0; limit = 10; level = level }
 
--- the root with 3, reserve 4 with 2, reserve 1 with 5
+-- 3 at the root, 5 at reserve 1 and 2 at reserve 4
 abbrev pub three : ReserveRows
 three = slice_set (slice_set (first_reserves 3) 4 (Some (child 2))) 1 (Some (child 5))
 
