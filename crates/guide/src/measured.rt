@@ -59,7 +59,7 @@ impl<M: Sensor> Store for Measured<M> {
 
     const KIND: u8 = b'M';
 
-    ghost KIND = { 77 };
+    ghost KIND = { (measured_store {M = M}).KIND };
 
     ghost means = { measured_laws };
 

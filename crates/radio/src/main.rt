@@ -1,8 +1,8 @@
-// A radio that lives on a battery, and one whose battery's losses are measured: a node over stores and a layer of one's
-// own.
+// A radio that lives on a battery, and one that lives on a store whose losses are measured: a node over stores and a layer
+// of one's own.
 #![tactic(auto)]
 
-ghost use Rattle.std.specs.Prelude.{IfOk};
+ghost use Rattle.std.specs.Prelude.{◌≡◌, ◌+◌, ◌-◌, ◌^◌, min, IfOk};
 ghost use Rattle.node.specs.Runs.{Reached, Lawful};
 ghost use Rattle.guide.specs.Measured.{measured_store};
 ghost use Rattle.radio.specs.Supply.{supply_store, Balanced};
@@ -45,7 +45,9 @@ struct Readings {
 }
 
 impl Sensor for Readings {
-    fn read(&mut self) -> u32 {
+    fn read(&mut self) -> u32
+        ensures next { self.new.next ≡ min (self.old.next + 1) (2 ^ 64 - 1) }
+    {
         let reading = LEAKED.get(self.next).copied().unwrap_or(0);
         self.next = self.next.saturating_add(1);
         reading

@@ -1,12 +1,12 @@
--- A node that is reached stays reached, whatever line is answered; and a node that is reached is sound.
+-- A node that is reached stays reached, whatever line is answered.
 use Rattle.std.proofs.Common.{refl, ◌≡◌, ℕ, List, [], IfErr, Ok, Err, Result, sym, ap, subst}
 use Rattle.store.specs.declared.store.Store.{Ghosts}
 use Rattle.rates.specs.declared.amount.OutOfRange.{OutOfRange as Outside}
 use Rattle.node.specs.declared.node.Node.{Node}
 use Rattle.node.specs.Calls.{Event}
-use Rattle.node.specs.Node.{Newborn, Called, SoundNode}
+use Rattle.node.specs.Node.{Newborn, Called}
 use Rattle.node.specs.Runs.{new}
-use Rattle.node.proofs.Reaching.{called, run_sound}
+use Rattle.node.proofs.Reaching.{called}
 use Rattle.frame.specs.Frame.{frame_in}
 use Rattle.frame.specs.declared.frame.Frame.{Frame}
 use Rattle.frame.specs.declared.frame.Frame.TheVariants.{Capacitor as CapacitorFrame, Layered as LayeredFrame, Bank as BankFrame, Open, Close, Tap, Shut, Grant, Settle, Tick, Audit}
@@ -18,10 +18,6 @@ use Rattle.store.specs.Meaning.{Change, exactly}
 use Rattle.store.specs.Capacitor.{new_capacitor, capacitor_after, capacitor_store}
 use Rattle.store.specs.Bank.{new_bank, bank_after, bank_store}
 use Rattle.simulator.specs.Simulator.{ReachedOn, Reached, Built, Builds, Stands, ServesOn, ServesIn, Serves, Replied, Replies, layered_store, layered_told, layered_of, Parks, SettledWith, Ends, SameIfRefused}
-
--- a node that is reached is sound
-pub reached_sound : {S : Type 0} (G : Ghosts S) (n : Node S) → ReachedOn G n → SoundNode G n
-reached_sound G n at = run_sound at.2
 
 module _ {S : Type 0} (G : Ghosts S) (A : Change → S → S → Type 0) where
   pub on : (n m : Node S) (e : Event) → Called G A n e m → ReachedOn G n → ReachedOn G m
