@@ -5,6 +5,10 @@ use Rattle.store.specs.Meaning.{Stage, Meaning, Change, charge, draw, drain, tic
 use Rattle.layers.specs.declared.layer.Layer.{Ghosts as LayerGhosts}
 use Rattle.layers.specs.declared.layered.Layered.{Layered}
 
+-- the layer m is l after a tick, whatever is sound below: over a store that then held some amount
+abbrev pub AfterTick : {L : Type 0} → LayerGhosts L → L → L → Type 0
+AfterTick H l m = H.sound l → (held : ℕ) × (m ≡ H.after l held)
+
 module _ {S L : Type 0} (G : Ghosts S) (H : LayerGhosts L) where
   -- the meaning of the store below
   abbrev pub means : S → Meaning

@@ -1,7 +1,7 @@
 // The bank of cells.
-ghost use Rattle.std.specs.Prelude.{◌≡◌, IfOk, refl};
-ghost use Rattle.store.specs.Bank.{new_bank, bank_means, BankSound, bank_after, bank_store};
-ghost use Rattle.store.specs.Meaning.{exactly};
+ghost use Rattle.std.specs.Prelude.{◌≡◌, IfOk, OnErr, OnOk, refl};
+ghost use Rattle.store.specs.Bank.{new_bank, bank_means, BankSound, with_cells, filled, emptied, bank_after, bank_store};
+ghost use Rattle.store.specs.Meaning.{Charged, Drawn, Drained, Ticked, exactly};
 ghost use Rattle.store.specs.Laws.{bank_laws};
 
 use crate::cell::Cell;
@@ -92,7 +92,11 @@ impl Store for Bank {
         0
     }
 
-    fn charge(&mut self, q: u32) -> u32 {
+    fn charge(&mut self, q: u32) -> u32
+        ensures sound { BankSound self.old → BankSound self.new }
+        ensures charged { BankSound self.old → Charged q (bank_means self.old) result (bank_means self.new) }
+        ensures after { self.new ≡ with_cells (filled q self.old.cells.items) }
+    {
         let mut left = q;
         for cell in self.cells.iter_mut() {
             left -= cell.charge(left);
@@ -100,7 +104,12 @@ impl Store for Bank {
         q - left
     }
 
-    fn draw(&mut self, q: u32) -> Result<(), Fault> {
+    fn draw(&mut self, q: u32) -> Result<(), Fault>
+        ensures sound { BankSound self.old → BankSound self.new }
+        ensures drawn { BankSound self.old → Drawn q (bank_means self.old) result (bank_means self.new) }
+        ensures same { OnErr result (self.new ≡ self.old) }
+        ensures after { OnOk result (self.new ≡ with_cells (emptied q self.old.cells.items)) }
+    {
         let held = self.held();
         if q > held {
             return Err(Fault {
@@ -113,7 +122,11 @@ impl Store for Bank {
         Ok(())
     }
 
-    fn drain(&mut self, q: u32) -> u32 {
+    fn drain(&mut self, q: u32) -> u32
+        ensures sound { BankSound self.old → BankSound self.new }
+        ensures drained { BankSound self.old → Drained q (bank_means self.old) result (bank_means self.new) }
+        ensures after { self.new ≡ with_cells (emptied q self.old.cells.items) }
+    {
         let mut left = q;
         // By place: what `iter_mut().rev()` leaves behind is not told by its contract.
         let cells = self.cells.as_mut_slice();
@@ -123,7 +136,13 @@ impl Store for Bank {
         q - left
     }
 
-    fn tick(&mut self) -> u32 {
+    fn tick(&mut self) -> u32
+        ensures sound { BankSound self.old → BankSound self.new }
+        ensures ticked { BankSound self.old → Ticked (bank_means self.old) result (bank_means self.new) }
+        ensures result { result ≡ 0 }
+        ensures same { self.new ≡ self.old }
+    {
+        // A tick loses nothing.
         0
     }
 }
