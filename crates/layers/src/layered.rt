@@ -1,7 +1,7 @@
 // A store under a layer.
 ghost use Rattle.std.specs.Prelude.{◌≡◌, OnErr, OnOk};
 ghost use Rattle.store.specs.Meaning.{Charged, Drawn, Drained, Ticked, charge, draw, drain, tick};
-ghost use Rattle.layers.specs.Layered.{layered_means, layered_loss, layered_after, LayeredSound, AfterTick};
+ghost use Rattle.layers.specs.Layered.{layered_means, layered_loss, layered_after, LayeredSound, AfterTick, Leaked};
 ghost use Rattle.store.proofs.Stages.{sound_more, top_kind_more};
 
 use crate::layer::Layer;
@@ -98,6 +98,7 @@ impl<S: Store, L: Layer> Store for Layered<S, L> {
         ensures ticked { LayeredSound (S.Store.own) (L.Layer) self.old → Ticked (layered_means (S.Store.own) (L.Layer) self.old) result (layered_means (S.Store.own) (L.Layer) self.new) }
         ensures loss { LayeredSound (S.Store.own) (L.Layer) self.old → result ≡ layered_loss (S.Store.own) (L.Layer) self.old }
         ensures after { LayeredSound (S.Store.own) (L.Layer) self.old → layered_after (S.Store.own) (L.Layer) (S.after) tick self.old self.new }
+        ensures leaked { LayeredSound (S.Store.own) (L.Layer) self.old → Leaked (S.Store.own) (L.Layer) self.old result self.new }
         ensures layer { AfterTick (L.Layer) self.old.layer self.new.layer }
     {
         let loss = self.below.tick();
