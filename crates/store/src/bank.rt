@@ -28,10 +28,13 @@ impl Bank {
         ensures sound { IfOk result BankSound }
     {
         let count = capacities.len();
+        if count == 0 || count > MOST_CELLS {
+            return Err(OutOfRange);
+        }
         let total = capacities
             .iter()
             .fold(0u32, |total, capacity| total.saturating_add(*capacity));
-        if count == 0 || count > MOST_CELLS || total > G {
+        if total > G {
             return Err(OutOfRange);
         }
         let mut cells = ArrayVec::new();
