@@ -88,3 +88,17 @@ impl<'a, S: Script> Cutter<'a, S> {
         self.finish(&[])
     }
 }
+
+// The same of a script and a line that are the caller's own: every line that ends in the piece is handed over, and the line
+// keeps what has been read of the next.
+pub fn feed<S: Script>(script: &mut S, line: &mut Line, piece: &[u8]) -> io::Result<()>
+    ensures fed { (xs : List ℕ) → HasRead xs line.old → OnOk result (Fed (S.Script) script.old xs piece.now script.new line.new) }
+{
+    let mut cutter = Cutter {
+        script,
+        line: *line,
+    };
+    let result = cutter.feed(piece);
+    *line = cutter.line;
+    result
+}

@@ -1,5 +1,5 @@
 // How bytes are added at the end.
-ghost use Rattle.std.specs.Prelude.{◌≡◌, ℕ, ◌≤◌, List, [], ◌++◌, take};
+ghost use Rattle.std.specs.Prelude.{◌≡◌, ℕ, ◌≤◌, List, [], ◌∷◌, ◌++◌, take};
 ghost use Rattle.frame.specs.Prefix.{kept, Begins};
 
 use super::Prefix;
@@ -21,6 +21,14 @@ impl<const N: usize> Prefix<N> {
         ensures result { kept result ≡ take len array.entry }
     {
         Prefix { array, len }
+    }
+
+    // Takes one byte more, and keeps it if it is among the first N.
+    pub fn push(&mut self, b: u8)
+        ensures after { kept self.new ≡ take N (kept self.old ++ b ∷ []) }
+        ensures whole { (xs : List ℕ) → Begins xs self.old → Begins (xs ++ b ∷ []) self.new }
+    {
+        self.extend(&[b]);
     }
 
     // Takes more bytes, and keeps those that are among the first N.
