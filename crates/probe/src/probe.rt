@@ -1,5 +1,5 @@
 // A soil probe whose radio is fed by a tap, and sends whenever its dues cover a send.
-ghost use Rattle.std.specs.Prelude.{IfOk, ◌≡◌};
+ghost use Rattle.std.specs.Prelude.{IfOk, Result, ◌≡◌};
 ghost use Rattle.store.specs.Capacitor.{capacitor_store};
 ghost use Rattle.node.specs.Node.{IsOut};
 ghost use Rattle.node.specs.Runs.{Reached};
