@@ -1,6 +1,6 @@
 // The bank of cells.
-ghost use Rattle.std.specs.Prelude.{◌≡◌, IfOk, OnErr, OnOk, refl};
-ghost use Rattle.store.specs.Bank.{new_bank, bank_means, BankSound, with_cells, filled, emptied, bank_after, bank_store};
+ghost use Rattle.std.specs.Prelude.{◌≡◌, IfOk, OnErr, OnOk, map, refl};
+ghost use Rattle.store.specs.Bank.{new_bank, bank_means, BankSound, with_cells, filled, emptied, bank_after, bank_store, bank_text};
 ghost use Rattle.store.specs.Meaning.{Charged, Drawn, Drained, Ticked, exactly};
 ghost use Rattle.store.specs.Laws.{bank_laws};
 
@@ -49,6 +49,17 @@ impl Bank {
         ensures result { result.now ≡ self.now.cells.items }
     {
         self.cells.as_slice()
+    }
+
+    // What each cell holds, cell 0 first.
+    fn held_by_cell(&self) -> ArrayVec<u32, MOST_CELLS>
+        ensures result { result.items ≡ map (λ x. x.held) self.now.cells.items }
+    {
+        let mut held = ArrayVec::new();
+        for cell in self.cells.as_slice() {
+            held.push(cell.held());
+        }
+        held
     }
 }
 
@@ -152,9 +163,11 @@ impl Store for Bank {
 
 // What each cell holds, cell 0 first, as `[5, 2, 0]`. By hand: no derive goes over a list.
 impl fmt::Display for Bank {
+    ghost output = { bank_text };
+
     fn fmt<W: fmt::Write>(&self, f: &mut fmt::Formatter<W>) -> fmt::Result {
-        f.debug_list()
-            .entries(self.cells.iter().map(Cell::held))
-            .finish()
+        let held = self.held_by_cell();
+        let amounts = held.as_slice();
+        write!(f, "{amounts:?}")
     }
 }
