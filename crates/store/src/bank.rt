@@ -144,7 +144,9 @@ impl Store for Bank {
         let mut left = q;
         // By place: what `iter_mut().rev()` leaves behind is not told by its contract.
         let cells = self.cells.as_mut_slice();
-        for i in (0..cells.len()).rev() {
+        let mut i = cells.len();
+        while i > 0 && left > 0 {
+            i -= 1;
             left -= cells[i].drain(left);
         }
         q - left
