@@ -89,8 +89,7 @@ impl<'a, S: Script> Cutter<'a, S> {
     }
 }
 
-// The same of a script and a line that are the caller's own: every line that ends in the piece is handed over, and the line
-// keeps what has been read of the next.
+// As `Cutter::feed`, of a script and a line that are the caller's own.
 pub fn feed<S: Script>(script: &mut S, line: &mut Line, piece: &[u8]) -> io::Result<()>
     ensures fed { (xs : List ℕ) → HasRead xs line.old → OnOk result (Fed (S.Script) script.old xs piece.now script.new line.new) }
 {
