@@ -88,3 +88,16 @@ impl<'a, S: Script> Cutter<'a, S> {
         self.finish(&[])
     }
 }
+
+// As `Cutter::feed`, of a script and a line that are the caller's own.
+pub fn feed<S: Script>(script: &mut S, line: &mut Line, piece: &[u8]) -> io::Result<()>
+    ensures fed { (xs : List ℕ) → HasRead xs line.old → OnOk result (Fed (S.Script) script.old xs piece.now script.new line.new) }
+{
+    let mut cutter = Cutter {
+        script,
+        line: *line,
+    };
+    let result = cutter.feed(piece);
+    *line = cutter.line;
+    result
+}

@@ -5,6 +5,6 @@ mod cutting;
 mod program;
 mod script;
 
-pub use cutting::{Cutter, line_end};
+pub use cutting::{Cutter, feed, line_end};
 pub use program::run;
 pub use script::Script;

@@ -1,4 +1,5 @@
 pub mod PrefixLaws
 pub mod TableLaws
 pub mod DigitsLaws
+pub mod FrameLaws
 pub mod AnswerLaws

@@ -1,5 +1,6 @@
 // The frames: a first byte that names the kind, then that kind's fields and nothing more.
-ghost use Rattle.std.specs.Prelude.{◌≡◌};
+ghost use Rattle.std.specs.Prelude.{◌≡◌, ℕ, List};
+ghost use Rattle.frame.specs.Prefix.{cut};
 ghost use Rattle.frame.specs.Frame.{frame_in, frame_of, open_of, close_of, tap_of, shut_of, grant_of, settle_of, tick_of, audit_of, capacitor_of, layered_of, bank_of};
 
 use crate::digits::{MOST_BYTES, read_line};
@@ -212,6 +213,7 @@ impl Frame {
     // The frame that a line is, of which the first 81 bytes tell as much as the whole.
     pub fn of_line(line: &[u8]) -> Result<Frame, FrameFault>
         ensures result { result ≡ frame_in line.now }
+        ensures long { (xs : List ℕ) → line.now ≡ cut xs → result ≡ frame_in xs }
     {
         let mut array = [0; MOST_BYTES];
         match read_line(line, &mut array) {

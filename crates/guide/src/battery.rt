@@ -1,7 +1,7 @@
 // A store of one's own: a battery.
-ghost use Rattle.std.specs.Prelude.{◌≡◌, IfOk, refl};
-ghost use Rattle.store.specs.Meaning.{exactly};
-ghost use Rattle.guide.specs.Battery.{new_battery, battery_means, battery_after, BatterySound, battery_store};
+ghost use Rattle.std.specs.Prelude.{◌≡◌, IfOk, OnErr, OnOk, min, refl};
+ghost use Rattle.store.specs.Meaning.{Charged, Drawn, Drained, Ticked, exactly};
+ghost use Rattle.guide.specs.Battery.{new_battery, battery_means, battery_after, BatterySound, filled, emptied, battery_store};
 ghost use Rattle.guide.specs.Laws.{battery_laws};
 
 use rates::{G, OutOfRange};
@@ -72,11 +72,20 @@ impl Store for Battery {
         0
     }
 
-    fn charge(&mut self, q: u32) -> u32 {
+    fn charge(&mut self, q: u32) -> u32
+        ensures sound { BatterySound self.old → BatterySound self.new }
+        ensures charged { BatterySound self.old → Charged q (battery_means self.old) result (battery_means self.new) }
+        ensures after { self.new ≡ filled q self.old }
+    {
         self.cell.charge(q)
     }
 
-    fn draw(&mut self, q: u32) -> Result<(), Fault> {
+    fn draw(&mut self, q: u32) -> Result<(), Fault>
+        ensures sound { BatterySound self.old → BatterySound self.new }
+        ensures drawn { BatterySound self.old → Drawn q (battery_means self.old) result (battery_means self.new) }
+        ensures same { OnErr result (self.new ≡ self.old) }
+        ensures after { OnOk result (self.new ≡ emptied q self.old) }
+    {
         self.cell.draw(q).map_err(|deficit| Fault {
             height: 0,
             kind: Self::KIND,
@@ -84,11 +93,20 @@ impl Store for Battery {
         })
     }
 
-    fn drain(&mut self, q: u32) -> u32 {
+    fn drain(&mut self, q: u32) -> u32
+        ensures sound { BatterySound self.old → BatterySound self.new }
+        ensures drained { BatterySound self.old → Drained q (battery_means self.old) result (battery_means self.new) }
+        ensures after { self.new ≡ emptied q self.old }
+    {
         self.cell.drain(q)
     }
 
-    fn tick(&mut self) -> u32 {
+    fn tick(&mut self) -> u32
+        ensures sound { BatterySound self.old → BatterySound self.new }
+        ensures ticked { BatterySound self.old → Ticked (battery_means self.old) result (battery_means self.new) }
+        ensures loss { BatterySound self.old → result ≡ min 1 self.old.cell.held }
+        ensures after { self.new ≡ emptied 1 self.old }
+    {
         self.drain(SELF_DISCHARGE)
     }
 }

@@ -1,9 +1,13 @@
 -- A layer over any store. The members of the store are G, those of the layer H. Assumes nothing.
 use Rattle.std.specs.Prelude.{◌≡◌, ℕ, ◌+◌, ◌-◌, min}
 use Rattle.store.specs.declared.store.Store.{Ghosts}
-use Rattle.store.specs.Meaning.{Stage, Meaning, Change, charge, draw, drain, tick, meaning, with_stage, top}
+use Rattle.store.specs.Meaning.{Stage, Meaning, Change, charge, draw, drain, tick, meaning, with_stage, top, Drained, Ticked}
 use Rattle.layers.specs.declared.layer.Layer.{Ghosts as LayerGhosts}
 use Rattle.layers.specs.declared.layered.Layered.{Layered}
+
+-- the layer m is l after a tick over a store that then held some amount, be that store sound or not
+abbrev pub AfterTick : {L : Type 0} → LayerGhosts L → L → L → Type 0
+AfterTick H l m = H.sound l → (held : ℕ) × (m ≡ H.after l held)
 
 module _ {S L : Type 0} (G : Ghosts S) (H : LayerGhosts L) where
   -- the meaning of the store below
@@ -43,6 +47,18 @@ module _ {S L : Type 0} (G : Ghosts S) (H : LayerGhosts L) where
   layered_after A tick y z =
       (between : S) × A tick y.below between × A (drain (leak_over y)) between z.below
       × (z.layer ≡ H.after y.layer (left_below y))
+
+  -- z is y after a tick that answered r, by the meaning of the store below alone: that store ticks, and is `between` then;
+  -- the leak of what it then holds is drained from it; and both losses are told as one number
+  pub record Leaked (y : Layered S L) (r : ℕ) (z : Layered S L) : Type 0 where
+    pub between : S
+    pub loss : ℕ
+    pub gone : ℕ
+    pub sound : G.sound between
+    pub ticked : Ticked (means y.below) loss (means between)
+    pub drained : Drained (H.leak y.layer (G.held between)) (means between) gone (means z.below)
+    pub told : r ≡ loss + gone
+    pub layer : z.layer ≡ H.after y.layer (G.held between)
 
   -- its members as a store
   abbrev pub layered_store : Ghosts (Layered S L)

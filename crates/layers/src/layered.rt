@@ -1,5 +1,7 @@
 // A store under a layer.
-ghost use Rattle.layers.specs.Layered.{layered_means, layered_loss, layered_after, LayeredSound};
+ghost use Rattle.std.specs.Prelude.{◌≡◌, OnErr, OnOk};
+ghost use Rattle.store.specs.Meaning.{Charged, Drawn, Drained, Ticked, charge, draw, drain, tick};
+ghost use Rattle.layers.specs.Layered.{layered_means, layered_loss, layered_after, LayeredSound, AfterTick, Leaked};
 ghost use Rattle.store.proofs.Stages.{sound_more, top_kind_more};
 
 use crate::layer::Layer;
@@ -52,12 +54,23 @@ impl<S: Store, L: Layer> Store for Layered<S, L> {
         self.below.height().saturating_add(1)
     }
 
-    fn charge(&mut self, q: u32) -> u32 {
+    fn charge(&mut self, q: u32) -> u32
+        ensures sound { LayeredSound (S.Store.own) (L.Layer) self.old → LayeredSound (S.Store.own) (L.Layer) self.new }
+        ensures charged { LayeredSound (S.Store.own) (L.Layer) self.old → Charged q (layered_means (S.Store.own) (L.Layer) self.old) result (layered_means (S.Store.own) (L.Layer) self.new) }
+        ensures after { LayeredSound (S.Store.own) (L.Layer) self.old → layered_after (S.Store.own) (L.Layer) (S.after) (charge q) self.old self.new }
+        ensures layer { self.new.layer ≡ self.old.layer }
+    {
         self.below.charge(q)
     }
 
     // The layer's own fault is told only where every stage below could give.
-    fn draw(&mut self, q: u32) -> Result<(), Fault> {
+    fn draw(&mut self, q: u32) -> Result<(), Fault>
+        ensures sound { LayeredSound (S.Store.own) (L.Layer) self.old → LayeredSound (S.Store.own) (L.Layer) self.new }
+        ensures drawn { LayeredSound (S.Store.own) (L.Layer) self.old → Drawn q (layered_means (S.Store.own) (L.Layer) self.old) result (layered_means (S.Store.own) (L.Layer) self.new) }
+        ensures same { OnErr result (self.new ≡ self.old) }
+        ensures after { LayeredSound (S.Store.own) (L.Layer) self.old → OnOk result (layered_after (S.Store.own) (L.Layer) (S.after) (draw q) self.old self.new) }
+        ensures layer { self.new.layer ≡ self.old.layer }
+    {
         let below = self.below.available();
         let available = self.layer.leaves(below);
         if available < q && q <= below {
@@ -70,12 +83,24 @@ impl<S: Store, L: Layer> Store for Layered<S, L> {
         self.below.draw(q)
     }
 
-    fn drain(&mut self, q: u32) -> u32 {
+    fn drain(&mut self, q: u32) -> u32
+        ensures sound { LayeredSound (S.Store.own) (L.Layer) self.old → LayeredSound (S.Store.own) (L.Layer) self.new }
+        ensures drained { LayeredSound (S.Store.own) (L.Layer) self.old → Drained q (layered_means (S.Store.own) (L.Layer) self.old) result (layered_means (S.Store.own) (L.Layer) self.new) }
+        ensures after { LayeredSound (S.Store.own) (L.Layer) self.old → layered_after (S.Store.own) (L.Layer) (S.after) (drain q) self.old self.new }
+        ensures layer { self.new.layer ≡ self.old.layer }
+    {
         self.below.drain(q)
     }
 
     // The leak is drained, not drawn, so that no floor below stops it.
-    fn tick(&mut self) -> u32 {
+    fn tick(&mut self) -> u32
+        ensures sound { LayeredSound (S.Store.own) (L.Layer) self.old → LayeredSound (S.Store.own) (L.Layer) self.new }
+        ensures ticked { LayeredSound (S.Store.own) (L.Layer) self.old → Ticked (layered_means (S.Store.own) (L.Layer) self.old) result (layered_means (S.Store.own) (L.Layer) self.new) }
+        ensures loss { LayeredSound (S.Store.own) (L.Layer) self.old → result ≡ layered_loss (S.Store.own) (L.Layer) self.old }
+        ensures after { LayeredSound (S.Store.own) (L.Layer) self.old → layered_after (S.Store.own) (L.Layer) (S.after) tick self.old self.new }
+        ensures leaked { LayeredSound (S.Store.own) (L.Layer) self.old → Leaked (S.Store.own) (L.Layer) self.old result self.new }
+        ensures layer { AfterTick (L.Layer) self.old.layer self.new.layer }
+    {
         let loss = self.below.tick();
         let held = self.below.held();
         let leak = self.layer.leak(held);

@@ -1,5 +1,5 @@
 // A soil probe whose radio is fed by a tap, and sends whenever its dues cover a send.
-ghost use Rattle.std.specs.Prelude.{IfOk, ◌≡◌};
+ghost use Rattle.std.specs.Prelude.{IfOk, Result, ◌≡◌};
 ghost use Rattle.store.specs.Capacitor.{capacitor_store};
 ghost use Rattle.node.specs.Node.{IsOut};
 ghost use Rattle.node.specs.Runs.{Reached};
@@ -159,7 +159,10 @@ impl<S: Store> Probe<S> {
     }
 
     // One request more than the dues cover, and how often each refusal was met by then.
-    fn hasten(&mut self, rt: &impl Print) -> Result<(), Failure> {
+    fn hasten(&mut self, rt: &impl Print) -> Result<(), Failure>
+        ensures run { Reached (S.Store.own) self.old.node → Reached (S.Store.own) self.new.node }
+        ensures tally { (r : Result (Unit {0}) Denial) × Sent self.old.tally r self.new.tally }
+    {
         if let Err(denial) = self.send() {
             println!(rt; "A request beyond the dues is denied: {denial}.")?;
         }

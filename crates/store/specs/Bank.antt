@@ -1,5 +1,6 @@
 -- Banks of cells. Assumes nothing.
-use Rattle.std.specs.Prelude.{ℕ, ◌-◌, ◌≤◌, Bool, cond, ◌&&◌, List, [], ◌∷◌, map, length, Ok, Err, sum, Result, nat_le}
+use Rattle.std.specs.Prelude.{ℕ, ◌-◌, ◌≤◌, Bool, cond, ◌&&◌, List, [], ◌∷◌, map, length, Ok, Err, sum, Result, nat_le, Option, Some}
+use Rattle.std.specs.Fmt.{decimal, debug_list}
 use Rattle.std.specs.List.{sum_by, AllByRecursion}
 use Rattle.rates.specs.Amount.{bound}
 use Rattle.rates.specs.declared.amount.OutOfRange.{OutOfRange}
@@ -72,3 +73,7 @@ bank_store = record {
   sound = BankSound;
   KIND = 70;
 }
+
+-- what it prints: what each cell holds, cell 0 first, as `[5, 2, 0]`
+abbrev pub bank_text : Bank → Option (List ℕ)
+bank_text b = debug_list (λ n. Some (decimal n)) (map (λ x. x.held) b.cells.items)

@@ -1,7 +1,7 @@
 // The bank of cells.
-ghost use Rattle.std.specs.Prelude.{◌≡◌, IfOk, refl};
-ghost use Rattle.store.specs.Bank.{new_bank, bank_means, BankSound, bank_after, bank_store};
-ghost use Rattle.store.specs.Meaning.{exactly};
+ghost use Rattle.std.specs.Prelude.{◌≡◌, IfOk, OnErr, OnOk, map, refl};
+ghost use Rattle.store.specs.Bank.{new_bank, bank_means, BankSound, with_cells, filled, emptied, bank_after, bank_store, bank_text};
+ghost use Rattle.store.specs.Meaning.{Charged, Drawn, Drained, Ticked, exactly};
 ghost use Rattle.store.specs.Laws.{bank_laws};
 
 use crate::cell::Cell;
@@ -28,10 +28,13 @@ impl Bank {
         ensures sound { IfOk result BankSound }
     {
         let count = capacities.len();
+        if count == 0 || count > MOST_CELLS {
+            return Err(OutOfRange);
+        }
         let total = capacities
             .iter()
             .fold(0u32, |total, capacity| total.saturating_add(*capacity));
-        if count == 0 || count > MOST_CELLS || total > G {
+        if total > G {
             return Err(OutOfRange);
         }
         let mut cells = ArrayVec::new();
@@ -46,6 +49,17 @@ impl Bank {
         ensures result { result.now ≡ self.now.cells.items }
     {
         self.cells.as_slice()
+    }
+
+    // What each cell holds, cell 0 first.
+    fn held_by_cell(&self) -> ArrayVec<u32, MOST_CELLS>
+        ensures result { result.items ≡ map (λ x. x.held) self.now.cells.items }
+    {
+        let mut held = ArrayVec::new();
+        for cell in self.cells.as_slice() {
+            held.push(cell.held());
+        }
+        held
     }
 }
 
@@ -92,7 +106,11 @@ impl Store for Bank {
         0
     }
 
-    fn charge(&mut self, q: u32) -> u32 {
+    fn charge(&mut self, q: u32) -> u32
+        ensures sound { BankSound self.old → BankSound self.new }
+        ensures charged { BankSound self.old → Charged q (bank_means self.old) result (bank_means self.new) }
+        ensures after { self.new ≡ with_cells (filled q self.old.cells.items) }
+    {
         let mut left = q;
         for cell in self.cells.iter_mut() {
             left -= cell.charge(left);
@@ -100,7 +118,12 @@ impl Store for Bank {
         q - left
     }
 
-    fn draw(&mut self, q: u32) -> Result<(), Fault> {
+    fn draw(&mut self, q: u32) -> Result<(), Fault>
+        ensures sound { BankSound self.old → BankSound self.new }
+        ensures drawn { BankSound self.old → Drawn q (bank_means self.old) result (bank_means self.new) }
+        ensures same { OnErr result (self.new ≡ self.old) }
+        ensures after { OnOk result (self.new ≡ with_cells (emptied q self.old.cells.items)) }
+    {
         let held = self.held();
         if q > held {
             return Err(Fault {
@@ -113,26 +136,40 @@ impl Store for Bank {
         Ok(())
     }
 
-    fn drain(&mut self, q: u32) -> u32 {
+    fn drain(&mut self, q: u32) -> u32
+        ensures sound { BankSound self.old → BankSound self.new }
+        ensures drained { BankSound self.old → Drained q (bank_means self.old) result (bank_means self.new) }
+        ensures after { self.new ≡ with_cells (emptied q self.old.cells.items) }
+    {
         let mut left = q;
         // By place: what `iter_mut().rev()` leaves behind is not told by its contract.
         let cells = self.cells.as_mut_slice();
-        for i in (0..cells.len()).rev() {
+        let mut i = cells.len();
+        while i > 0 && left > 0 {
+            i -= 1;
             left -= cells[i].drain(left);
         }
         q - left
     }
 
-    fn tick(&mut self) -> u32 {
+    fn tick(&mut self) -> u32
+        ensures sound { BankSound self.old → BankSound self.new }
+        ensures ticked { BankSound self.old → Ticked (bank_means self.old) result (bank_means self.new) }
+        ensures result { result ≡ 0 }
+        ensures same { self.new ≡ self.old }
+    {
+        // A tick loses nothing.
         0
     }
 }
 
 // What each cell holds, cell 0 first, as `[5, 2, 0]`. By hand: no derive goes over a list.
 impl fmt::Display for Bank {
+    ghost output = { bank_text };
+
     fn fmt<W: fmt::Write>(&self, f: &mut fmt::Formatter<W>) -> fmt::Result {
-        f.debug_list()
-            .entries(self.cells.iter().map(Cell::held))
-            .finish()
+        let held = self.held_by_cell();
+        let amounts = held.as_slice();
+        write!(f, "{amounts:?}")
     }
 }

@@ -1,7 +1,7 @@
 // The capacitor.
-ghost use Rattle.std.specs.Prelude.{◌≡◌, IfOk, refl};
-ghost use Rattle.store.specs.Capacitor.{new_capacitor, capacitor_means, CapacitorSound, capacitor_after, capacitor_store};
-ghost use Rattle.store.specs.Meaning.{exactly};
+ghost use Rattle.std.specs.Prelude.{◌≡◌, IfOk, OnErr, OnOk, refl};
+ghost use Rattle.store.specs.Capacitor.{new_capacitor, capacitor_means, CapacitorSound, filled, emptied, capacitor_after, capacitor_store};
+ghost use Rattle.store.specs.Meaning.{Charged, Drawn, Drained, Ticked, exactly};
 ghost use Rattle.store.specs.Laws.{capacitor_laws};
 
 use crate::cell::Cell;
@@ -70,11 +70,20 @@ impl Store for Capacitor {
         0
     }
 
-    fn charge(&mut self, q: u32) -> u32 {
+    fn charge(&mut self, q: u32) -> u32
+        ensures sound { CapacitorSound self.old → CapacitorSound self.new }
+        ensures charged { CapacitorSound self.old → Charged q (capacitor_means self.old) result (capacitor_means self.new) }
+        ensures after { self.new ≡ filled q self.old }
+    {
         self.cell.charge(q)
     }
 
-    fn draw(&mut self, q: u32) -> Result<(), Fault> {
+    fn draw(&mut self, q: u32) -> Result<(), Fault>
+        ensures sound { CapacitorSound self.old → CapacitorSound self.new }
+        ensures drawn { CapacitorSound self.old → Drawn q (capacitor_means self.old) result (capacitor_means self.new) }
+        ensures same { OnErr result (self.new ≡ self.old) }
+        ensures after { OnOk result (self.new ≡ emptied q self.old) }
+    {
         self.cell.draw(q).map_err(|deficit| Fault {
             height: 0,
             kind: Self::KIND,
@@ -82,11 +91,21 @@ impl Store for Capacitor {
         })
     }
 
-    fn drain(&mut self, q: u32) -> u32 {
+    fn drain(&mut self, q: u32) -> u32
+        ensures sound { CapacitorSound self.old → CapacitorSound self.new }
+        ensures drained { CapacitorSound self.old → Drained q (capacitor_means self.old) result (capacitor_means self.new) }
+        ensures after { self.new ≡ emptied q self.old }
+    {
         self.cell.drain(q)
     }
 
-    fn tick(&mut self) -> u32 {
+    fn tick(&mut self) -> u32
+        ensures sound { CapacitorSound self.old → CapacitorSound self.new }
+        ensures ticked { CapacitorSound self.old → Ticked (capacitor_means self.old) result (capacitor_means self.new) }
+        ensures result { result ≡ 0 }
+        ensures same { self.new ≡ self.old }
+    {
+        // A tick loses nothing.
         0
     }
 }

@@ -1,5 +1,5 @@
 // How bytes are added at the end.
-ghost use Rattle.std.specs.Prelude.{◌≡◌, ℕ, ◌≤◌, List, [], ◌++◌, take};
+ghost use Rattle.std.specs.Prelude.{◌≡◌, ℕ, ◌+◌, ◌<◌, ◌≤◌, List, [], ◌∷◌, ◌++◌, take, slice_set};
 ghost use Rattle.frame.specs.Prefix.{kept, Begins};
 
 use super::Prefix;
@@ -21,6 +21,26 @@ impl<const N: usize> Prefix<N> {
         ensures result { kept result ≡ take len array.entry }
     {
         Prefix { array, len }
+    }
+
+    // Keeps one byte more, where there is room for it.
+    fn keep(&mut self, b: u8)
+        requires { self.old.len < N }
+        ensures array { self.new.array ≡ slice_set self.old.array self.old.len b }
+        ensures len { self.new.len ≡ self.old.len + 1 }
+    {
+        self.array[self.len] = b;
+        self.len += 1;
+    }
+
+    // Takes one byte more, and keeps it if it is among the first N.
+    pub fn push(&mut self, b: u8)
+        ensures after { kept self.new ≡ take N (kept self.old ++ b ∷ []) }
+        ensures whole { (xs : List ℕ) → Begins xs self.old → Begins (xs ++ b ∷ []) self.new }
+    {
+        if self.len < N {
+            self.keep(b);
+        }
     }
 
     // Takes more bytes, and keeps those that are among the first N.
