@@ -134,7 +134,7 @@ over_long n r h = grind (arith, nat_tests)
 line_of_long : (ds : List ℕ) → 80 < length ds → line_of ds ≡ Err BadLine
 line_of_long ds h = over_long (length ds) (bytes_of ds) h
 
-pub line_of_cut : (xs : List ℕ) → line_of (cut xs) ≡ line_of xs
+line_of_cut : (xs : List ℕ) → line_of (cut xs) ≡ line_of xs
 line_of_cut xs =
     elim (leb_tells (length xs) 80) [
       | inl h ↦ ap line_of (take_all 81 xs (omega arith))

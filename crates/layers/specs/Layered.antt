@@ -5,7 +5,7 @@ use Rattle.store.specs.Meaning.{Stage, Meaning, Change, charge, draw, drain, tic
 use Rattle.layers.specs.declared.layer.Layer.{Ghosts as LayerGhosts}
 use Rattle.layers.specs.declared.layered.Layered.{Layered}
 
--- the layer m is l after a tick over a store that then held some amount, be that store sound or not
+-- the layer m is l after a tick, where l is sound: over a store that then held some amount, be that store sound or not
 abbrev pub AfterTick : {L : Type 0} → LayerGhosts L → L → L → Type 0
 AfterTick H l m = H.sound l → (held : ℕ) × (m ≡ H.after l held)
 

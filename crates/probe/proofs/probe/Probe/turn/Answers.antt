@@ -1,4 +1,4 @@
-use Rattle.std.proofs.Common.{◌≡◌, Bool, true, false, arith, ap, refl}
+use Rattle.std.proofs.Common.{◌≡◌, true, false, arith, ap, refl}
 use Rattle.node.proofs.Reaching.{called}
 use Rattle.probe.specs.Probe.{due_after, covers}
 use Rattle.probe.proofs.Turning.{turned}
